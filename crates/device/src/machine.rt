@@ -1,0 +1,111 @@
+// A device, and the refusals that are its own: a limit above its ceiling, and a feature that it lacks.
+ghost use mathlib.Core.Path.{_≡_};
+ghost use Rattle.faults.specs.Faults.{answer};
+ghost use Rattle.device.specs.Device.{aboveCeiling, Limited, featuresFault, failedLimitNumber, missingFeaturesNumber};
+use crate::limits::Limits;
+use faults::first_fault;
+use formats::features::DownlevelFlags;
+use formats::features::Features;
+use formats::features::FeaturesDebug;
+use formats::features::FeaturesEq;
+use formats::features::FeaturesPartialEq;
+
+#[derive(Clone, Copy, PartialEq, Eq, Debug)]
+pub enum LimitName {
+    MaxColorAttachments,
+    MaxVertexBuffers,
+    MaxVertexAttributes,
+    MaxVertexBufferArrayStride,
+    MaxColorAttachmentBytesPerSample,
+}
+
+// A limit that was asked for above its ceiling.
+#[derive(Clone, Copy, PartialEq, Eq, Debug)]
+pub struct FailedLimit {
+    pub name: LimitName,
+    pub requested: u64,
+    pub allowed: u64,
+}
+
+impl FailedLimit {
+    pub fn number(&self) -> u32
+        ensures { λ r. ⌜ r ≡ failedLimitNumber (now (self .entry)) ⌝ }
+    {
+        22
+    }
+}
+
+// The limits that a caller asks for.
+#[derive(Clone, Copy)]
+pub struct RequiredLimits {
+    pub max_color_attachments: u32,
+    pub max_vertex_buffers: u32,
+    pub max_vertex_attributes: u32,
+    pub max_vertex_buffer_array_stride: u32,
+    pub max_color_attachment_bytes_per_sample: u32,
+}
+
+fn check_ceiling(name: LimitName, requested: u32, allowed: u32) -> Option<FailedLimit>
+    ensures { λ r. ⌜ r ≡ aboveCeiling name requested allowed ⌝ }
+{
+    if requested > allowed {
+        return Some(FailedLimit { name, requested: requested as u64, allowed: allowed as u64 });
+    }
+    None
+}
+
+impl Limits {
+    // The limits asked for, or the first of them, in the order of the record, that is above its ceiling.
+    pub fn new(required: &RequiredLimits) -> Result<Limits, FailedLimit>
+        ensures { λ r. ⌜ Limited (now (required .entry)) r ⌝ }
+    {
+        let verdicts = [
+            check_ceiling(LimitName::MaxColorAttachments, required.max_color_attachments, 8),
+            check_ceiling(LimitName::MaxVertexBuffers, required.max_vertex_buffers, 16),
+            check_ceiling(LimitName::MaxVertexAttributes, required.max_vertex_attributes, 32),
+            check_ceiling(LimitName::MaxVertexBufferArrayStride, required.max_vertex_buffer_array_stride, 536_870_912),
+            check_ceiling(LimitName::MaxColorAttachmentBytesPerSample, required.max_color_attachment_bytes_per_sample, 128),
+        ];
+        if let Some(fault) = first_fault(&verdicts) {
+            return Err(fault);
+        }
+        Ok(Limits {
+            max_color_attachments: required.max_color_attachments,
+            max_vertex_buffers: required.max_vertex_buffers,
+            max_vertex_attributes: required.max_vertex_attributes,
+            max_vertex_buffer_array_stride: required.max_vertex_buffer_array_stride,
+            max_color_attachment_bytes_per_sample: required.max_color_attachment_bytes_per_sample,
+        })
+    }
+}
+
+// Features that a style needs and the device lacks.
+#[derive(Clone, Copy, PartialEq, Eq, Debug)]
+pub struct MissingFeatures(pub Features);
+
+impl MissingFeatures {
+    pub fn number(&self) -> u32
+        ensures { λ r. ⌜ r ≡ missingFeaturesNumber (now (self .entry)) ⌝ }
+    {
+        23
+    }
+}
+
+#[derive(Clone, Copy)]
+pub struct Device {
+    pub limits: Limits,
+    pub features: Features,
+    pub downlevel: DownlevelFlags,
+}
+
+impl Device {
+    // Whether the device has the features; if not, the refusal names all that were asked for.
+    pub fn require_features(&self, features: Features) -> Result<(), MissingFeatures>
+        ensures { λ r. ⌜ r ≡ answer (featuresFault (now (self .entry)) features) tt ⌝ }
+    {
+        if !self.features.contains(features) {
+            return Err(MissingFeatures(features));
+        }
+        Ok(())
+    }
+}
