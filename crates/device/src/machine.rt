@@ -49,7 +49,11 @@ fn check_ceiling(name: LimitName, requested: u32, allowed: u32) -> Option<Failed
     ensures { λ r. ⌜ r ≡ aboveCeiling name requested allowed ⌝ }
 {
     if requested > allowed {
-        return Some(FailedLimit { name, requested: requested as u64, allowed: allowed as u64 });
+        return Some(FailedLimit {
+            name,
+            requested: requested as u64,
+            allowed: allowed as u64,
+        });
     }
     None
 }
@@ -60,11 +64,27 @@ impl Limits {
         ensures { λ r. ⌜ Limited (now (required .entry)) r ⌝ }
     {
         let verdicts = [
-            check_ceiling(LimitName::MaxColorAttachments, required.max_color_attachments, 8),
+            check_ceiling(
+                LimitName::MaxColorAttachments,
+                required.max_color_attachments,
+                8,
+            ),
             check_ceiling(LimitName::MaxVertexBuffers, required.max_vertex_buffers, 16),
-            check_ceiling(LimitName::MaxVertexAttributes, required.max_vertex_attributes, 32),
-            check_ceiling(LimitName::MaxVertexBufferArrayStride, required.max_vertex_buffer_array_stride, 536_870_912),
-            check_ceiling(LimitName::MaxColorAttachmentBytesPerSample, required.max_color_attachment_bytes_per_sample, 128),
+            check_ceiling(
+                LimitName::MaxVertexAttributes,
+                required.max_vertex_attributes,
+                32,
+            ),
+            check_ceiling(
+                LimitName::MaxVertexBufferArrayStride,
+                required.max_vertex_buffer_array_stride,
+                536_870_912,
+            ),
+            check_ceiling(
+                LimitName::MaxColorAttachmentBytesPerSample,
+                required.max_color_attachment_bytes_per_sample,
+                128,
+            ),
         ];
         if let Some(fault) = first_fault(&verdicts) {
             return Err(fault);

@@ -16,16 +16,27 @@ pub struct Features {
 
 impl Features {
     pub const DEPTH_CLIP_CONTROL: Features = Features { bits: 1 << 0 };
+
     pub const POLYGON_MODE_LINE: Features = Features { bits: 1 << 1 };
+
     pub const POLYGON_MODE_POINT: Features = Features { bits: 1 << 2 };
+
     pub const CONSERVATIVE_RASTERIZATION: Features = Features { bits: 1 << 3 };
+
     pub const VERTEX_ATTRIBUTE_64BIT: Features = Features { bits: 1 << 4 };
+
     pub const DUAL_SOURCE_BLENDING: Features = Features { bits: 1 << 5 };
+
     pub const FLOAT32_BLENDABLE: Features = Features { bits: 1 << 6 };
+
     pub const RG11B10UFLOAT_RENDERABLE: Features = Features { bits: 1 << 7 };
+
     pub const DEPTH32FLOAT_STENCIL8: Features = Features { bits: 1 << 8 };
+
     pub const TEXTURE_ADAPTER_SPECIFIC_FORMAT_FEATURES: Features = Features { bits: 1 << 9 };
+
     pub const MULTIVIEW: Features = Features { bits: 1 << 10 };
+
     pub const SELECTIVE_MULTIVIEW: Features = Features { bits: 1 << 11 };
 
     // Every bit is kept, also one that has no name.
@@ -50,7 +61,9 @@ pub struct DownlevelFlags {
 
 impl DownlevelFlags {
     pub const INDEPENDENT_BLEND: DownlevelFlags = DownlevelFlags { bits: 1 << 0 };
+
     pub const DEPTH_BIAS_CLAMP: DownlevelFlags = DownlevelFlags { bits: 1 << 1 };
+
     pub const WEBGPU_TEXTURE_FORMAT_SUPPORT: DownlevelFlags = DownlevelFlags { bits: 1 << 2 };
 
     // Every bit is kept, also one that has no name.

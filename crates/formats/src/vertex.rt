@@ -54,8 +54,51 @@ pub enum VertexFormat {
 
 // In the order of the formats.
 const SIZES: [u64; 45] = [
-    1, 2, 4, 1, 2, 4, 1, 2, 4, 1, 2, 4, 2, 4, 8, 2, 4, 8, 2, 4, 8, 2, 4, 8, 2, 4, 8, 4, 8, 12, 16, 4, 8, 12, 16, 4, 8, 12,
-    16, 8, 16, 24, 32, 4, 4,
+    1,
+    2,
+    4,
+    1,
+    2,
+    4,
+    1,
+    2,
+    4,
+    1,
+    2,
+    4,
+    2,
+    4,
+    8,
+    2,
+    4,
+    8,
+    2,
+    4,
+    8,
+    2,
+    4,
+    8,
+    2,
+    4,
+    8,
+    4,
+    8,
+    12,
+    16,
+    4,
+    8,
+    12,
+    16,
+    4,
+    8,
+    12,
+    16,
+    8,
+    16,
+    24,
+    32,
+    4,
+    4,
 ];
 
 // The table's rule and range, proved once over all of it.
@@ -81,7 +124,10 @@ impl VertexFormat {
         ensures { λ r. ⌜ r ≡ is64bit self ⌝ }
     {
         match self {
-            VertexFormat::Float64 | VertexFormat::Float64x2 | VertexFormat::Float64x3 | VertexFormat::Float64x4 => true,
+            VertexFormat::Float64
+            | VertexFormat::Float64x2
+            | VertexFormat::Float64x3
+            | VertexFormat::Float64x4 => true,
             _ => false,
         }
     }

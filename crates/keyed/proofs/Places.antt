@@ -64,21 +64,23 @@ module _ {K V : Type 0} (same : K → K → Bool) where
     past-other : (e : Entry K V) {ps qs : List (Option (Entry K V))} {k : K} {v : V} {earlier : Option V} → same (e .key) k ≡ false → Stored same ps k v earlier qs → Stored same (Some e ∷ ps) k v earlier (Some e ∷ qs)
     unfolding lookup taken
     past-other e {k = k} other s =
-        record
-        { answers = grind (arith, s .answers)
-        ; places = ap suc (s .places)
-        ; finds = λ j. grind (arith, s .finds j, symmetric k j, transitive (e .key) j k)
-        ; takes = omega (arith, s .takes) }
+        record {
+          answers = grind (arith, s .answers);
+          places = ap suc (s .places);
+          finds = λ j. grind (arith, s .finds j, symmetric k j, transitive (e .key) j k);
+          takes = omega (arith, s .takes);
+        }
 
     -- a store over the same key
     over-same : (e : Entry K V) (ps : List (Option (Entry K V))) (k : K) (v : V) → same (e .key) k ≡ true → Stored same (Some e ∷ ps) k v (Some (e .value)) (holding k v ∷ ps)
     unfolding lookup taken
     over-same e ps k v known =
-        record
-        { answers = grind arith
-        ; places = refl
-        ; finds = λ j. grind (arith, symmetric (e .key) k, transitive k (e .key) j)
-        ; takes = omega arith }
+        record {
+          answers = grind arith;
+          places = refl;
+          finds = λ j. grind (arith, symmetric (e .key) k, transitive k (e .key) j);
+          takes = omega arith;
+        }
 
     -- a store of a new key in an empty place
     over-empty : (ps : List (Option (Entry K V))) (k : K) (v : V) → lookup same ps k ≡ None → Stored same (None ∷ ps) k v None (holding k v ∷ ps)
@@ -92,8 +94,9 @@ module _ {K V : Type 0} (same : K → K → Bool) where
     at-known (None ∷ ps) k v known = past-empty (at-known ps k v (omega arith))
     at-known (Some e ∷ ps) k v known =
         elim (cases-bool (same (e .key) k)) [
-          inl t ↦ rw t (over-same e ps k v t)
-        | inr f ↦ rw f (past-other e f (at-known ps k v (let later = rw f at known in omega arith))) ]
+          | inl t ↦ rw t (over-same e ps k v t)
+          | inr f ↦ rw f (past-other e f (at-known ps k v (let later = rw f at known in omega arith)))
+        ]
 
     -- a store of a new key over the first empty place
     at-new : (ps : List (Option (Entry K V))) (k : K) (v : V) → lookup same ps k ≡ None → first isEmpty ps < length ps → Stored same ps k v None (set ps (first isEmpty ps) (holding k v))

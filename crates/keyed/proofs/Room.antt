@@ -18,14 +18,14 @@ placesMore-le None = omega arith
 placesMore-le (Some v) = omega arith
 
 -- of empty places none is taken
-empty-taken : (K V : Type 0) (n : ℕ) → taken {K = K} {V = V} (replicate n None) ≡ 0
+pub empty-taken : (K V : Type 0) (n : ℕ) → taken {K = K} {V = V} (replicate n None) ≡ 0
 unfolding taken
 empty-taken K V zero = refl
 empty-taken K V (suc n) = empty-taken K V n
 
 module _ {K V : Type 0} (same : K → K → Bool) where
   -- and under every key stands nothing
-  empty-lookup : (n : ℕ) (k : K) → lookup {V = V} same (replicate n None) k ≡ None
+  pub empty-lookup : (n : ℕ) (k : K) → lookup {V = V} same (replicate n None) k ≡ None
   unfolding lookup
   empty-lookup zero k = refl
   empty-lookup (suc n) k = empty-lookup n k

@@ -98,7 +98,11 @@ pub fn get<K: Key, V: Copy>(places: &[Option<Entry<K, V>>], key: &K) -> Option<V
 }
 
 // Puts the value under the key, and answers the earlier one; a new key is refused where every place is taken.
-pub fn insert<K: Key, V: Copy>(places: &mut [Option<Entry<K, V>>], key: K, value: V) -> Result<Option<V>, Full>
+pub fn insert<K: Key, V: Copy>(
+    places: &mut [Option<Entry<K, V>>],
+    key: K,
+    value: V,
+) -> Result<Option<V>, Full>
     ensures effect { λ r. ⌜ Inserts (K·Key .same) (now (places .entry)) key value r (now (places .exit)) ⌝ }
     ensures room { λ r. ⌜ NeverRefused (K·Key .same) (now (places .entry)) key r ⌝ }
 {
@@ -159,8 +163,16 @@ mod tests {
 
     #[test]
     fn subresources() -> Result<(), Fail> {
-        let base = Subresource { texture: 1, mip: 0, layer: 0 };
-        let layer = Subresource { texture: 1, mip: 0, layer: 1 };
+        let base = Subresource {
+            texture: 1,
+            mip: 0,
+            layer: 0,
+        };
+        let layer = Subresource {
+            texture: 1,
+            mip: 0,
+            layer: 1,
+        };
         let mut places: [Option<Entry<Subresource, u32>>; 1] = [None];
         check_eq(insert(&mut places, base, 1)?, None)?;
         check_eq(insert(&mut places, layer, 2), Err(Full))?;

@@ -1,0 +1,2 @@
+// The plain records of a style.
+pub mod vertex;
