@@ -1,4 +1,5 @@
 pub mod Fixed
+pub mod Kept
 pub mod Lawful
 pub mod Loops
 pub mod Room

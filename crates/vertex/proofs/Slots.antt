@@ -11,9 +11,9 @@ use Rattle.std.specs.declared.option.Option.the-variants.{Some, None}
 use Rattle.std.specs.declared.result.Result.{Result}
 use Rattle.std.specs.declared.result.Result.the-variants.{Ok, Err}
 use Rattle.std.proofs.shelf.Elements.{all-weaker}
-use Rattle.std.proofs.shelf.Tests.{leb-false, ltb-false}
-use Rattle.faults.specs.Faults.{firstOf, answer}
-use Rattle.faults.proofs.Order.{at-first, at-next, value-from-ok, none-from-ok, same-refusal, same-acceptance, all-none, none-all, each-none, not-if}
+use Rattle.std.proofs.shelf.Tests.{leb-false, ltb-false, le-ltb}
+use Rattle.faults.specs.Faults.{orElse, firstOf, answer}
+use Rattle.faults.proofs.Order.{at-first, at-next, value-from-ok, none-from-ok, same-refusal, same-acceptance, all-none, none-all, each-none, not-if, if-not}
 use Rattle.device.specs.declared.machine.Device.{Device}
 use Rattle.descriptor.specs.declared.vertex.VertexAttribute.{VertexAttribute}
 use Rattle.descriptor.specs.declared.vertex.VertexBufferLayout.{VertexBufferLayout}
@@ -73,3 +73,12 @@ all-stay attributes index [] h = tt
 all-stay attributes index (o ∷ rest) h =
     let k = all-none (rangesVerdicts (length attributes) index (o ∷ rest)) h in
     (stays attributes index o (k .0), all-stay attributes (index + 1) rest (none-all (rangesVerdicts (length attributes) (index + 1) rest) (k .1)))
+
+none-stays : (attributes : List VertexAttribute) (index : ℕ) (o : Option VertexBufferLayout) → InList attributes o → rangeVerdict (length attributes) index o ≡ None
+none-stays attributes index None h = refl
+none-stays attributes index (Some s) h = if-not _ _ (le-ltb _ _ h)
+
+pub none-stay : (attributes : List VertexAttribute) (index : ℕ) (slots : List (Option VertexBufferLayout)) → All (InList attributes) slots → firstOf (rangesVerdicts (length attributes) index slots) ≡ None
+none-stay attributes index [] h = refl
+none-stay attributes index (o ∷ rest) h =
+    ap (λ v. orElse v (firstOf (rangesVerdicts (length attributes) (index + 1) rest))) (none-stays attributes index o (h .0)) ∙ none-stay attributes (index + 1) rest (h .1)

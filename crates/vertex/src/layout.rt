@@ -9,7 +9,8 @@ ghost use Rattle.std.specs.shelf.Lists.{All, sumBy};
 ghost use Rattle.faults.specs.Faults.{answer, firstOf};
 ghost use Rattle.descriptor.specs.Vertex.{attribute-end};
 ghost use Rattle.vertex.specs.Claims.{claimed, Roomy, Claims, InList};
-ghost use Rattle.vertex.specs.Order.{farVerdict, formatVerdict, clashVerdict, claimVerdicts, claimsVerdicts, mark, markAll, markSlot, partVerdicts, partStep, slotVerdicts, slotsVerdicts, stepOf, stepsOf, unused, vertexVerdicts, attributeVerdicts, attributesVerdicts, lastStride, strideVerdicts, reach, rangeVerdict, rangesVerdicts, buffersVerdict, countOf, totalVerdict};
+ghost use Rattle.vertex.specs.Order.{farVerdict, formatVerdict, clashVerdict, claimVerdicts, claimsVerdicts, mark, markAll, markSlot, partVerdicts, partStep, slotVerdicts, slotsVerdicts, stepOf, stepsOf, unused, attributeVerdicts, attributesVerdicts, lastStride, strideVerdicts, reach, rangeVerdict, rangesVerdicts, buffersVerdict, countOf, totalVerdict};
+ghost use Rattle.vertex.specs.Rules.{Judged};
 use crate::error::VertexStateError;
 use crate::error::VertexStateErrorFromMissingFeatures;
 use crate::step::VertexStep;
@@ -329,7 +330,7 @@ pub fn check_vertex_state(
     device: &Device,
     vertex: &VertexState,
 ) -> Result<[Option<VertexStep>; 16], VertexStateError>
-    ensures value { λ r. ⌜ r ≡ answer (firstOf (vertexVerdicts (now (device .entry)) (now (now (vertex .entry) .buffers)) (now (now (vertex .entry) .attributes)))) (stepsOf (now (now (vertex .entry) .buffers)) (now (now (vertex .entry) .attributes))) ⌝ }
+    ensures { λ r. ⌜ Judged (now (device .entry)) (now (now (vertex .entry) .buffers)) (now (now (vertex .entry) .attributes)) r ⌝ }
 {
     check_attribute_ranges(vertex)?;
     check_buffer_count(device, vertex.buffers)?;
