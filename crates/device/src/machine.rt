@@ -1,14 +1,18 @@
 // A device, and the refusals that are its own: a limit above its ceiling, and a feature that it lacks.
 ghost use mathlib.Core.Path.{_≡_};
+ghost use Rattle.std.specs.declared.option.Option.the-variants.{Some};
 ghost use Rattle.faults.specs.Faults.{answer};
+ghost use Rattle.device.specs.Words.{limitWords, failedLimitWords};
 ghost use Rattle.device.specs.Device.{aboveCeiling, Limited, featuresFault, failedLimitNumber, missingFeaturesNumber};
 use crate::limits::Limits;
 use faults::first_fault;
 use formats::features::DownlevelFlags;
 use formats::features::Features;
 use formats::features::FeaturesDebug;
+use formats::features::FeaturesDisplay;
 use formats::features::FeaturesEq;
 use formats::features::FeaturesPartialEq;
+use std::fmt;
 
 #[derive(Clone, Copy, PartialEq, Eq, Debug)]
 pub enum LimitName {
@@ -32,6 +36,36 @@ impl FailedLimit {
         ensures { λ r. ⌜ r ≡ failedLimitNumber (now (self .entry)) ⌝ }
     {
         22
+    }
+}
+
+pub impl fmt::Display for LimitName as LimitNameDisplay {
+    ghost shown = { λ n. Some (limitWords n) };
+
+    fn fmt<W: fmt::Write>(&self, f: &mut fmt::Formatter<W>) -> fmt::Result {
+        match self {
+            LimitName::MaxColorAttachments => f.write_str("max_color_attachments"),
+            LimitName::MaxVertexBuffers => f.write_str("max_vertex_buffers"),
+            LimitName::MaxVertexAttributes => f.write_str("max_vertex_attributes"),
+            LimitName::MaxVertexBufferArrayStride => f.write_str("max_vertex_buffer_array_stride"),
+            LimitName::MaxColorAttachmentBytesPerSample => f.write_str(
+                "max_color_attachment_bytes_per_sample",
+            ),
+        }
+    }
+}
+
+pub impl fmt::Display for FailedLimit as FailedLimitDisplay {
+    ghost shown = { λ e. Some (failedLimitWords e) };
+
+    fn fmt<W: fmt::Write>(&self, f: &mut fmt::Formatter<W>) -> fmt::Result {
+        let name = self.name;
+        let requested = self.requested;
+        let allowed = self.allowed;
+        write!(
+            f,
+            "the limit {name} is {requested}, above its ceiling of {allowed}"
+        )
     }
 }
 
@@ -108,6 +142,16 @@ impl MissingFeatures {
         ensures { λ r. ⌜ r ≡ missingFeaturesNumber (now (self .entry)) ⌝ }
     {
         23
+    }
+}
+
+pub impl fmt::Display for MissingFeatures as MissingFeaturesDisplay {
+    fn fmt<W: fmt::Write>(&self, f: &mut fmt::Formatter<W>) -> fmt::Result {
+        let features = self.0;
+        write!(
+            f,
+            "the device lacks the feature that this needs: {features}"
+        )
     }
 }
 

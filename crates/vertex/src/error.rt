@@ -1,9 +1,11 @@
 // The faults of a vertex state, under the reference's names. Each keeps its values.
 ghost use mathlib.Core.Path.{_≡_};
-ghost use Rattle.std.specs.declared.option.Option.the-variants.{Some};
 ghost use Rattle.vertex.specs.Numbers.{numberOf};
+ghost use Rattle.vertex.specs.Words.{words};
 ghost use Rattle.vertex.specs.declared.error.VertexStateError.the-variants.{MissingFeatures as Lacks};
 use device::machine::MissingFeatures;
+use device::machine::MissingFeaturesDisplay;
+use std::fmt;
 
 #[derive(Clone, Copy)]
 pub enum VertexStateError {
@@ -70,6 +72,80 @@ impl VertexStateError {
             VertexStateError::ShaderLocationClash(_) => 9,
             VertexStateError::TooManyVertexAttributes { .. } => 10,
             VertexStateError::MissingFeatures(e) => e.number(),
+        }
+    }
+}
+
+pub impl fmt::Display for VertexStateError as VertexStateErrorDisplay {
+    ghost shown = { words };
+
+    fn fmt<W: fmt::Write>(&self, f: &mut fmt::Formatter<W>) -> fmt::Result {
+        match self {
+            VertexStateError::AttributeRange {
+                index,
+                given,
+                limit,
+            } => {
+                write!(
+                    f,
+                    "vertex buffer {index} marks attributes up to place {given}, but the list has {limit}"
+                )
+            }
+            VertexStateError::TooManyVertexBuffers { given, limit } => {
+                write!(
+                    f,
+                    "{given} vertex buffers are more than the limit of {limit}"
+                )
+            }
+            VertexStateError::VertexStrideTooLarge {
+                index,
+                given,
+                limit,
+            } => {
+                write!(
+                    f,
+                    "vertex buffer {index} has a stride of {given}, above the limit of {limit}"
+                )
+            }
+            VertexStateError::UnalignedVertexStride { index, stride } => {
+                write!(
+                    f,
+                    "vertex buffer {index} has a stride of {stride}, which is no multiple of 4"
+                )
+            }
+            VertexStateError::VertexAttributeStrideTooLarge {
+                location,
+                given,
+                limit,
+            } => {
+                write!(
+                    f,
+                    "the attribute at location {location} ends at byte {given}, and may reach byte {limit}"
+                )
+            }
+            VertexStateError::InvalidVertexAttributeOffset { location, offset } => {
+                write!(
+                    f,
+                    "the attribute at location {location} has an offset of {offset}, which is unaligned or not below 268435456"
+                )
+            }
+            VertexStateError::VertexAttributeLocationTooLarge { given, limit } => {
+                write!(
+                    f,
+                    "an attribute has location {given}, which is not below the limit of {limit}"
+                )
+            }
+            VertexStateError::ShaderLocationClash(location) => write!(
+                f,
+                "two attributes have location {location}"
+            ),
+            VertexStateError::TooManyVertexAttributes { given, limit } => {
+                write!(
+                    f,
+                    "{given} vertex attributes are more than the limit of {limit}"
+                )
+            }
+            VertexStateError::MissingFeatures(e) => write!(f, "{e}"),
         }
     }
 }
