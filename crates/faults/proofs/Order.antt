@@ -12,7 +12,8 @@ use Rattle.std.specs.declared.option.Option.the-variants.{Some, None}
 use Rattle.std.specs.declared.result.Result.{Result}
 use Rattle.std.specs.declared.result.Result.the-variants.{Ok, Err}
 use Rattle.std.proofs.shelf.Lists.{at-drop-more, at-drop-all}
-use Rattle.faults.specs.Faults.{fault-if, orElse, firstOf, answer, FirstIn}
+use Rattle.std.proofs.shelf.Tests.{false≢true}
+use Rattle.faults.specs.Faults.{fault-if, orElse, firstOf, answer, FirstIn, Judged}
 
 -- what an answer tells of the verdict that it came from
 pub none-from-ok : {A E : Type 0} (o : Option E) (a x : A) → Ok x ≡ answer o a → o ≡ None
@@ -143,6 +144,21 @@ if-not b e h = ap (λ t. fault-if t e) h
 -- the meaning, at what a function answered
 pub first-in-at : {E : Type 0} (os : List (Option E)) (o : Option E) → o ≡ firstOf os → FirstIn os o
 first-in-at {E} os o h = let P : Option E → Type 0 = FirstIn os in subst P (sym h) (first-in os)
+
+-- all that a judging answers, from its value, where the verdicts are all none exactly if the rules hold
+module _ {A E : Type 0} (os : List (Option E)) (a : A) (Rules : Type 0) (lawful : firstOf os ≡ None → Rules) (passes : Rules → firstOf os ≡ None) where
+  judged-as : (o : Option E) → o ≡ firstOf os → Judged os a Rules (answer o a)
+  judged-as None h = record { value = ap (λ p. answer p a) h; lawful = λ t. lawful (sym h); accepted = λ l. refl; refuses = tt }
+  judged-as (Some e) h =
+      record {
+        value = ap (λ p. answer p a) h;
+        lawful = λ t. absurd (false≢true t);
+        accepted = λ l. let n = passes l in cc;
+        refuses = first-in-at os (Some e) h;
+      }
+
+  pub judged : (r : Result A E) → r ≡ answer (firstOf os) a → Judged os a Rules r
+  judged r h = rw h (judged-as (firstOf os) refl)
 
 -- a loop over the verdicts themselves: one that is a fault ends it, and one that is none leaves the answer to the rest
 module _ {E : Type 0} (os : List (Option E)) (i : ℕ) (o : Option E) (q : firstOf os ≡ firstOf (drop i os)) (h : i < length os) (r : o ≡ getD os i o) where

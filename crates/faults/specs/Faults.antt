@@ -1,9 +1,10 @@
 -- Ordered checks: the verdict of each is a fault or none, and the first fault of a list of them is the answer.
-use mathlib.Core.Bool.{Bool, cond}
+use mathlib.Core.Bool.{Bool, true, cond}
 use mathlib.Core.List.{List, [], _∷_}
 use mathlib.Core.Path.{_≡_}
 use Prim.Native.Nat.{ℕ, _<_}
 use lib.ListN.{length, getD}
+use Rattle.std.specs.Results.{isOk}
 use Rattle.std.specs.declared.option.Option.{Option}
 use Rattle.std.specs.declared.option.Option.the-variants.{Some, None}
 use Rattle.std.specs.declared.result.Result.{Result}
@@ -36,3 +37,15 @@ within f None = None
 abbrev pub FirstIn : {E : Type 0} → List (Option E) → Option E → Type 0
 FirstIn os (Some e) = (k : ℕ) × (k < length os) × (getD os k None ≡ Some e) × ((j : ℕ) → j < k → getD os j None ≡ None)
 FirstIn os None = (j : ℕ) → j < length os → getD os j None ≡ None
+
+-- a refusal is the first fault of the verdicts
+abbrev pub RefusesFirst : {A E : Type 0} → List (Option E) → Result A E → Type 0
+RefusesFirst os (Ok a) = Unit {0}
+RefusesFirst os (Err e) = FirstIn os (Some e)
+
+-- what a judging by ordered verdicts answers: the value where the rules hold, and only there, else the first fault
+pub record Judged {A E : Type 0} (os : List (Option E)) (a : A) (Rules : Type 0) (r : Result A E) : Type 0 where
+  pub value : r ≡ answer (firstOf os) a
+  pub lawful : isOk r ≡ true → Rules
+  pub accepted : Rules → isOk r ≡ true
+  pub refuses : RefusesFirst os r

@@ -1,4 +1,4 @@
--- What an accepted vertex state keeps, in words, and all that its judging answers.
+-- What an accepted vertex state keeps, in words.
 use mathlib.Core.Bool.{true}
 use mathlib.Core.List.{List, [], _∷_, _++_, map}
 use mathlib.Core.Logic.{_⊎_, inl, inr}
@@ -15,9 +15,9 @@ use Rattle.std.specs.declared.result.Result.{Result}
 use Rattle.std.specs.declared.result.Result.the-variants.{Ok, Err}
 use Rattle.std.proofs.shelf.Elements.{all-has, has-getD}
 use Rattle.std.proofs.shelf.Lists.{getD-past, getD-map, getD-append-left, getD-append-right, length-map}
-use Rattle.std.proofs.shelf.Tests.{cases-lt, cond-both, false≢true}
-use Rattle.faults.specs.Faults.{firstOf, answer}
-use Rattle.faults.proofs.Order.{first-in-at}
+use Rattle.std.proofs.shelf.Tests.{cases-lt, cond-both}
+use Rattle.faults.specs.Faults.{firstOf, answer, Judged}
+use Rattle.faults.proofs.Order.{judged}
 use Rattle.device.specs.declared.machine.Device.{Device}
 use Rattle.descriptor.specs.Vertex.{attribute-end, partOf}
 use Rattle.descriptor.specs.declared.vertex.VertexAttribute.{VertexAttribute}
@@ -25,7 +25,7 @@ use Rattle.descriptor.specs.declared.vertex.VertexBufferLayout.{VertexBufferLay
 use Rattle.vertex.specs.declared.error.VertexStateError.{VertexStateError}
 use Rattle.vertex.specs.declared.step.VertexStep.{VertexStep}
 use Rattle.vertex.specs.Order.{greatestEnd, lastStride, reach, vertexVerdicts, stepOf, stepsOf}
-use Rattle.vertex.specs.Rules.{AttributeLawful, SlotLawful, Lawful, Greatest, Keeps, KeptOf, Judged}
+use Rattle.vertex.specs.Rules.{AttributeLawful, SlotLawful, Lawful, Greatest, Keeps, KeptOf, Accepts}
 use Rattle.vertex.proofs.Lawful.{lawful, passes-lawful}
 
 -- the greatest end: at least where it began, at least each end, and one of these
@@ -113,7 +113,7 @@ module _ (d : Device) (slots : List (Option VertexBufferLayout)) (attributes : L
       getD-append-right (map (stepOf attributes) slots) _ (length slots) i None (length-map slots (stepOf attributes)) h ∙ no-step (16 - length slots) (i - length slots) in
       rw (getD-past slots i None h, e) tt
 
-  pub kept : (i : ℕ) → KeptOf attributes (getD slots i None) (getD (stepsOf slots attributes) i None)
+  kept : (i : ℕ) → KeptOf attributes (getD slots i None) (getD (stepsOf slots attributes) i None)
   kept i =
       elim (cases-lt i (length slots)) [
         | inl h ↦
@@ -123,25 +123,18 @@ module _ (d : Device) (slots : List (Option VertexBufferLayout)) (attributes : L
         | inr h ↦ empty i h
       ]
 
--- all that the judging answers, from its value
+-- what is kept, from the answer's value
 module _ (d : Device) (slots : List (Option VertexBufferLayout)) (attributes : List VertexAttribute) where
-  judged-as : (o : Option VertexStateError) → o ≡ firstOf (vertexVerdicts d slots attributes) → Judged d slots attributes (answer o (stepsOf slots attributes))
-  judged-as None h =
-      record {
-        value = ap (λ p. answer p (stepsOf slots attributes)) h;
-        lawful = λ t. lawful d slots attributes (sym h);
-        accepted = λ l. refl;
-        refuses = tt;
-        accepts = kept d slots attributes (lawful d slots attributes (sym h));
-      }
-  judged-as (Some e) h =
-      record {
-        value = ap (λ p. answer p (stepsOf slots attributes)) h;
-        lawful = λ t. absurd (false≢true t);
-        accepted = λ l. let n = passes-lawful d slots attributes l in cc;
-        refuses = first-in-at (vertexVerdicts d slots attributes) (Some e) h;
-        accepts = tt;
-      }
+  kept-as : (o : Option VertexStateError) → o ≡ firstOf (vertexVerdicts d slots attributes) → Accepts slots attributes (answer o (stepsOf slots attributes))
+  kept-as None h = kept d slots attributes (lawful d slots attributes (sym h))
+  kept-as (Some e) h = tt
 
-  pub judged : (r : Result (List (Option VertexStep)) VertexStateError) → r ≡ answer (firstOf (vertexVerdicts d slots attributes)) (stepsOf slots attributes) → Judged d slots attributes r
-  judged r h = rw h (judged-as (firstOf (vertexVerdicts d slots attributes)) refl)
+  keeps-steps : (r : Result (List (Option VertexStep)) VertexStateError) → r ≡ answer (firstOf (vertexVerdicts d slots attributes)) (stepsOf slots attributes) → Accepts slots attributes r
+  keeps-steps r h = rw h (kept-as (firstOf (vertexVerdicts d slots attributes)) refl)
+
+  -- all that the judging answers
+  pub answers : (r : Result (List (Option VertexStep)) VertexStateError) → r ≡ answer (firstOf (vertexVerdicts d slots attributes)) (stepsOf slots attributes) → Judged (vertexVerdicts d slots attributes) (stepsOf slots attributes) (Lawful d slots attributes) r × Accepts slots attributes r
+  answers r h = (
+    judged (vertexVerdicts d slots attributes) (stepsOf slots attributes) (Lawful d slots attributes) (lawful d slots attributes) (passes-lawful d slots attributes) r h,
+    keeps-steps r h,
+  )

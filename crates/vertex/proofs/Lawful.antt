@@ -12,8 +12,9 @@ use Rattle.std.specs.declared.option.Option.{Option}
 use Rattle.std.specs.declared.option.Option.the-variants.{Some, None}
 use Rattle.std.proofs.shelf.Elements.{all-has, all-has-itself, all-weaker, all-append}
 use Rattle.std.proofs.shelf.Tests.{cases-bool, not-true, not-false, not-from-true, ltb-false, leb-false, le-ltb, lt-leb, eqb-true, eq-eqb, eqb-false, ne-eqb, or-parts, or-from}
-use Rattle.faults.specs.Faults.{fault-if, orElse, firstOf, within}
-use Rattle.faults.proofs.Order.{all-none, none-all, both-none, none-both, each-none, none-each, not-if, if-not}
+use Rattle.std.specs.declared.result.Result.{Result}
+use Rattle.faults.specs.Faults.{firstOf, within, Judged}
+use Rattle.faults.proofs.Order.{all-none, none-all, both-none, none-both, each-none, none-each, not-if, if-not, judged}
 use Rattle.formats.specs.Features.{includes, vertex-attribute-64bit}
 use Rattle.formats.specs.Vertex.{is64bit}
 use Rattle.device.specs.Device.{featuresFault}
@@ -25,8 +26,9 @@ use Rattle.vertex.specs.declared.error.VertexStateError.{VertexStateError}
 use Rattle.vertex.specs.declared.error.VertexStateError.the-variants.{MissingFeatures}
 use Rattle.vertex.specs.Order.{endVerdict, offsetVerdict, locationVerdict, attributeVerdicts, attributesVerdicts, farVerdict, formatVerdict, clashVerdict, claimVerdicts, claimsVerdicts, mark, markAll, reach, strideVerdicts, partVerdicts, slotVerdicts, markSlot, slotsVerdicts, rangeVerdict, rangesVerdicts, buffersVerdict, totalVerdict, layoutVerdicts, vertexVerdicts, unused}
 use Rattle.vertex.specs.Claims.{InList}
+use Rattle.vertex.proofs.Loops.{rangesAnswer}
 use Rattle.vertex.proofs.Slots.{all-stay, none-stay}
-use Rattle.vertex.specs.Rules.{AttributeLawful, SlotLawful, PairwiseDifferent, Lawful}
+use Rattle.vertex.specs.Rules.{AttributeLawful, SlotLawful, PairwiseDifferent, Lawful, InRange}
 
 -- a test of an equation that is denied
 differs : (a b : ℕ) → not (eqb a b) ≡ false → a ≡ b
@@ -201,6 +203,22 @@ module _ (d : Device) where
         (none-part index used s (partOf attributes s) (l .0) (fresh-left used (partOf attributes s) (attributesOf attributes rest) f))
         (none-slots (index + 1) (markAll used (partOf attributes s)) rest (l .1) (fresh-right used (partOf attributes s) (attributesOf attributes rest) f))
 
+module _ (slots : List (Option VertexBufferLayout)) (attributes : List VertexAttribute) where
+  -- from the slots that are there to each place
+  from-each : (P : Option VertexBufferLayout → Type 0) → P None → ((s : VertexBufferLayout) → Has slots (Some s) → P (Some s)) → All P slots
+  from-each P n f = all-weaker (Has slots) P (λ o. elim o as (λ v. Has slots v → P v) [ Some s ↦ f s | None ↦ λ h. n ]) slots (all-has-itself slots)
+
+  -- the ranges alone
+  in-range : firstOf (rangesVerdicts (length attributes) 0 slots) ≡ None → InRange slots attributes
+  in-range h s w = all-has (InList attributes) slots (Some s) (all-stay attributes 0 slots h) w
+
+  passes-in-range : InRange slots attributes → firstOf (rangesVerdicts (length attributes) 0 slots) ≡ None
+  passes-in-range l = none-stay attributes 0 slots (from-each (InList attributes) tt l)
+
+  pub ranges-answer : (r : Result (Unit {0}) VertexStateError) → r ≡ rangesAnswer (length attributes) 0 slots → Judged (rangesVerdicts (length attributes) 0 slots) tt (InRange slots attributes) r
+  ranges-answer r h = judged (rangesVerdicts (length attributes) 0 slots) tt (InRange slots attributes) in-range passes-in-range r h
+
+-- the whole
 module _ (d : Device) (slots : List (Option VertexBufferLayout)) (attributes : List VertexAttribute) where
   slot-lawful : (s : VertexBufferLayout) → InList attributes (Some s) → Holds d attributes (Some s) → SlotLawful d attributes s
   slot-lawful s i l =
@@ -214,20 +232,15 @@ module _ (d : Device) (slots : List (Option VertexBufferLayout)) (attributes : L
         each = all-weaker (Has (partOf attributes s)) (AttributeLawful d (reach d s)) (l .part) (partOf attributes s) (all-has-itself (partOf attributes s));
       }
 
-  -- from the slots that are there to each place
-  from-each : (P : Option VertexBufferLayout → Type 0) → P None → ((s : VertexBufferLayout) → Has slots (Some s) → P (Some s)) → All P slots
-  from-each P n f = all-weaker (Has slots) P (λ o. elim o as (λ v. Has slots v → P v) [ Some s ↦ f s | None ↦ λ h. n ]) slots (all-has-itself slots)
-
   pub lawful : firstOf (vertexVerdicts d slots attributes) ≡ None → Lawful d slots attributes
   lawful h =
       let k = both-none (rangesVerdicts (length attributes) 0 slots) (layoutVerdicts d slots attributes) h in
       let b = both-none (buffersVerdict d slots ∷ []) (slotsVerdicts d attributes 0 unused slots ++ (totalVerdict d slots ∷ [])) (k .1) in
       let m = both-none (slotsVerdicts d attributes 0 unused slots) (totalVerdict d slots ∷ []) (b .1) in
       let v = slots-none d attributes 0 unused slots (m .0) in
-      let i = all-stay attributes 0 slots (k .0) in
       record {
         buffers = ltb-false _ _ (not-if _ _ (all-none (buffersVerdict d slots ∷ []) (b .0) .0));
-        each = λ s w. slot-lawful s (all-has (InList attributes) slots (Some s) i w) (all-has (Holds d attributes) slots (Some s) (v .0) w);
+        each = λ s w. slot-lawful s (in-range slots attributes (k .0) s w) (all-has (Holds d attributes) slots (Some s) (v .0) w);
         locations = fresh-different unused (attributesOf attributes slots) (v .1);
         total = ltb-false _ _ (not-if _ _ (all-none (totalVerdict d slots ∷ []) (m .1) .0));
       }
@@ -235,10 +248,10 @@ module _ (d : Device) (slots : List (Option VertexBufferLayout)) (attributes : L
   pub passes-lawful : Lawful d slots attributes → firstOf (vertexVerdicts d slots attributes) ≡ None
   passes-lawful l =
       none-both (rangesVerdicts (length attributes) 0 slots) (layoutVerdicts d slots attributes)
-      (none-stay attributes 0 slots (from-each (InList attributes) tt (λ s w. l .each s w .range)))
+      (passes-in-range slots attributes (λ s w. l .each s w .range))
       (none-both (buffersVerdict d slots ∷ []) (slotsVerdicts d attributes 0 unused slots ++ (totalVerdict d slots ∷ []))
       (none-all (buffersVerdict d slots ∷ []) (if-not _ _ (le-ltb _ _ (l .buffers)), tt))
       (none-both (slotsVerdicts d attributes 0 unused slots) (totalVerdict d slots ∷ [])
-      (none-slots d attributes 0 unused slots (from-each (Holds d attributes) tt (λ s w. part-lawful s (l .each s w)))
+      (none-slots d attributes 0 unused slots (from-each slots attributes (Holds d attributes) tt (λ s w. part-lawful s (l .each s w)))
       (different-fresh unused (attributesOf attributes slots) (all-unused (attributesOf attributes slots)) (l .locations)))
       (none-all (totalVerdict d slots ∷ []) (if-not _ _ (le-ltb _ _ (l .total)), tt))))

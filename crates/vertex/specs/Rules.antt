@@ -4,23 +4,24 @@ use mathlib.Core.List.{List, [], _∷_}
 use mathlib.Core.Logic.{_≢_, _⊎_}
 use mathlib.Core.Path.{_≡_}
 use Prim.Native.Nat.{ℕ, _%_, _<_, _≤_, min}
+use denote.Ref.{now}
 use lib.ListN.{length, getD}
-use Rattle.std.specs.Results.{isOk}
 use Rattle.std.specs.shelf.Lists.{All, Has, sumBy}
 use Rattle.std.specs.declared.option.Option.{Option}
 use Rattle.std.specs.declared.option.Option.the-variants.{Some, None}
 use Rattle.std.specs.declared.result.Result.{Result}
 use Rattle.std.specs.declared.result.Result.the-variants.{Ok, Err}
-use Rattle.faults.specs.Faults.{FirstIn, firstOf, answer}
+use Rattle.faults.specs.Faults.{Judged}
 use Rattle.formats.specs.Features.{includes, vertex-attribute-64bit}
 use Rattle.formats.specs.Vertex.{sizeOf, is64bit}
 use Rattle.device.specs.declared.machine.Device.{Device}
 use Rattle.descriptor.specs.Vertex.{attribute-end, partEnd, partOf, attributesOf}
 use Rattle.descriptor.specs.declared.vertex.VertexAttribute.{VertexAttribute}
 use Rattle.descriptor.specs.declared.vertex.VertexBufferLayout.{VertexBufferLayout}
+use Rattle.descriptor.specs.declared.vertex.VertexState.{VertexState}
 use Rattle.vertex.specs.declared.error.VertexStateError.{VertexStateError}
 use Rattle.vertex.specs.declared.step.VertexStep.{VertexStep}
-use Rattle.vertex.specs.Order.{reach, countOf, vertexVerdicts, stepsOf}
+use Rattle.vertex.specs.Order.{reach, countOf, rangesVerdicts, vertexVerdicts, stepsOf}
 
 -- an attribute whose end may reach as far as `most`
 pub record AttributeLawful (d : Device) (most : ℕ) (a : VertexAttribute) : Type 0 where
@@ -68,20 +69,23 @@ KeptOf attributes None (Some t) = ⊥
 KeptOf attributes (Some s) None = ⊥
 KeptOf attributes (Some s) (Some t) = Keeps attributes s t
 
--- a refusal's fault is that of the first rule broken, in the order of the verdicts
-abbrev pub Refuses : Device → List (Option VertexBufferLayout) → List VertexAttribute → Result (List (Option VertexStep)) VertexStateError → Type 0
-Refuses d slots attributes (Ok steps) = Unit {0}
-Refuses d slots attributes (Err e) = FirstIn (vertexVerdicts d slots attributes) (Some e)
-
 -- an acceptance keeps a step at the place of each slot that is not empty, and none elsewhere
 abbrev pub Accepts : List (Option VertexBufferLayout) → List VertexAttribute → Result (List (Option VertexStep)) VertexStateError → Type 0
 Accepts slots attributes (Ok steps) = (i : ℕ) → KeptOf attributes (getD slots i None) (getD steps i None)
 Accepts slots attributes (Err e) = Unit {0}
 
--- what the judging of a vertex state answers
-pub record Judged (d : Device) (slots : List (Option VertexBufferLayout)) (attributes : List VertexAttribute) (r : Result (List (Option VertexStep)) VertexStateError) : Type 0 where
-  pub value : r ≡ answer (firstOf (vertexVerdicts d slots attributes)) (stepsOf slots attributes)
-  pub lawful : isOk r ≡ true → Lawful d slots attributes
-  pub accepted : Lawful d slots attributes → isOk r ≡ true
-  pub refuses : Refuses d slots attributes r
-  pub accepts : Accepts slots attributes r
+-- the part of each slot stays in the attribute list
+abbrev pub InRange : List (Option VertexBufferLayout) → List VertexAttribute → Type 0
+InRange slots attributes = (s : VertexBufferLayout) → Has slots (Some s) → partEnd s ≤ length attributes
+
+-- what the judging of the ranges answers, and that of the whole
+abbrev pub RangesJudged : VertexState → Result (Unit {0}) VertexStateError → Type 0
+RangesJudged v r =
+    Judged (rangesVerdicts (length (now (v .attributes))) 0 (now (v .buffers))) tt (InRange (now (v .buffers)) (now (v .attributes))) r
+
+abbrev pub VertexJudged : Device → VertexState → Result (List (Option VertexStep)) VertexStateError → Type 0
+VertexJudged d v r =
+    Judged (vertexVerdicts d (now (v .buffers)) (now (v .attributes))) (stepsOf (now (v .buffers)) (now (v .attributes))) (Lawful d (now (v .buffers)) (now (v .attributes))) r
+
+abbrev pub VertexKept : VertexState → Result (List (Option VertexStep)) VertexStateError → Type 0
+VertexKept v r = Accepts (now (v .buffers)) (now (v .attributes)) r

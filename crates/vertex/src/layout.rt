@@ -10,7 +10,7 @@ ghost use Rattle.faults.specs.Faults.{answer, firstOf};
 ghost use Rattle.descriptor.specs.Vertex.{attribute-end};
 ghost use Rattle.vertex.specs.Claims.{claimed, Roomy, Claims, InList};
 ghost use Rattle.vertex.specs.Order.{farVerdict, formatVerdict, clashVerdict, claimVerdicts, claimsVerdicts, mark, markAll, markSlot, partVerdicts, partStep, slotVerdicts, slotsVerdicts, stepOf, stepsOf, unused, attributeVerdicts, attributesVerdicts, lastStride, strideVerdicts, reach, rangeVerdict, rangesVerdicts, buffersVerdict, countOf, totalVerdict};
-ghost use Rattle.vertex.specs.Rules.{Judged};
+ghost use Rattle.vertex.specs.Rules.{RangesJudged, VertexJudged, VertexKept};
 use crate::error::VertexStateError;
 use crate::error::VertexStateErrorFromMissingFeatures;
 use crate::step::VertexStep;
@@ -265,7 +265,7 @@ fn check_range(
 
 // Each slot's part stays in the attribute list. At create, rules on the targets stand between this one and the others.
 pub fn check_attribute_ranges(vertex: &VertexState) -> Result<(), VertexStateError>
-    ensures { λ r. ⌜ r ≡ answer (firstOf (rangesVerdicts (length (now (now (vertex .entry) .attributes))) 0 (now (now (vertex .entry) .buffers)))) tt ⌝ }
+    ensures { λ r. ⌜ RangesJudged (now (vertex .entry)) r ⌝ }
 {
     let available = vertex.attributes.len() as u64;
     for i in 0..vertex.buffers.len() {
@@ -330,7 +330,8 @@ pub fn check_vertex_state(
     device: &Device,
     vertex: &VertexState,
 ) -> Result<[Option<VertexStep>; 16], VertexStateError>
-    ensures { λ r. ⌜ Judged (now (device .entry)) (now (now (vertex .entry) .buffers)) (now (now (vertex .entry) .attributes)) r ⌝ }
+    ensures judged { λ r. ⌜ VertexJudged (now (device .entry)) (now (vertex .entry)) r ⌝ }
+    ensures kept { λ r. ⌜ VertexKept (now (vertex .entry)) r ⌝ }
 {
     check_attribute_ranges(vertex)?;
     check_buffer_count(device, vertex.buffers)?;
