@@ -1,13 +1,25 @@
 // The vertex state of a style: slots, and the one attribute list of which each slot marks a part.
 ghost use mathlib.Core.Path.{_≡_};
-ghost use Prim.Native.Nat.{_+_, _<_, _^_};
-ghost use Rattle.descriptor.specs.Vertex.{attribute-end, capped, partEnd};
+ghost use Rattle.std.specs.declared.option.Option.the-variants.{Some};
+ghost use Rattle.descriptor.specs.Vertex.{attribute-end, capped, partEnd, stepModeWords};
 use formats::vertex::VertexFormat;
+use std::fmt;
 
 #[derive(Clone, Copy, PartialEq, Eq, Debug)]
 pub enum VertexStepMode {
     Vertex,
     Instance,
+}
+
+pub impl fmt::Display for VertexStepMode as VertexStepModeDisplay {
+    ghost shown = { λ m. Some (stepModeWords m) };
+
+    fn fmt<W: fmt::Write>(&self, f: &mut fmt::Formatter<W>) -> fmt::Result {
+        match self {
+            VertexStepMode::Vertex => f.write_str("vertex"),
+            VertexStepMode::Instance => f.write_str("instance"),
+        }
+    }
 }
 
 #[derive(Clone, Copy)]

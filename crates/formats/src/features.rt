@@ -47,11 +47,11 @@ impl Features {
         Features { bits }
     }
 
-    // Whether each feature of `other` is among these.
-    pub fn contains(self, other: Features) -> bool
-        ensures { λ r. ⌜ r ≡ includes self other ⌝ }
+    // Whether each of the features is among these.
+    pub fn contains(self, features: Features) -> bool
+        ensures { λ r. ⌜ r ≡ includes self features ⌝ }
     {
-        is_set(self.bits, other.bits)
+        is_set(self.bits, features.bits)
     }
 }
 
@@ -116,11 +116,11 @@ impl DownlevelFlags {
         DownlevelFlags { bits }
     }
 
-    // Whether each flag of `other` is among these.
-    pub fn contains(self, other: DownlevelFlags) -> bool
-        ensures { λ r. ⌜ r ≡ includesFlags self other ⌝ }
+    // Whether each of the flags is among these.
+    pub fn contains(self, flags: DownlevelFlags) -> bool
+        ensures { λ r. ⌜ r ≡ includesFlags self flags ⌝ }
     {
-        is_set(self.bits, other.bits)
+        is_set(self.bits, flags.bits)
     }
 }
 
