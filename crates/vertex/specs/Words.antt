@@ -10,18 +10,18 @@ use Rattle.vertex.specs.declared.error.VertexStateError.the-variants.{Attribut
 
 abbrev pub words : VertexStateError → Option (List ℕ)
 words (AttributeRange index given limit) =
-    Some (codes "vertex buffer " ++ (decimal index ++ (codes " marks attributes up to place " ++ (decimal given ++ (codes ", but the list has " ++ decimal limit)))))
+    Some (codes "vertex buffer " ++ (decimal index ++ (codes " ends at attribute " ++ (decimal given ++ (codes ", the list at " ++ decimal limit)))))
 words (TooManyVertexBuffers given limit) = Some (decimal given ++ (codes " vertex buffers are more than the limit of " ++ decimal limit))
 words (VertexStrideTooLarge index given limit) =
-    Some (codes "vertex buffer " ++ (decimal index ++ (codes " has a stride of " ++ (decimal given ++ (codes ", above the limit of " ++ decimal limit)))))
+    Some (codes "vertex buffer " ++ (decimal index ++ (codes " has stride " ++ (decimal given ++ (codes ", above the limit of " ++ decimal limit)))))
 words (UnalignedVertexStride index stride) =
-    Some (codes "vertex buffer " ++ (decimal index ++ (codes " has a stride of " ++ (decimal stride ++ codes ", which is no multiple of 4"))))
+    Some (codes "vertex buffer " ++ (decimal index ++ (codes " has stride " ++ (decimal stride ++ codes ", which is no multiple of 4"))))
 words (VertexAttributeStrideTooLarge location given limit) =
-    Some (codes "the attribute at location " ++ (decimal location ++ (codes " ends at byte " ++ (decimal given ++ (codes ", and may reach byte " ++ decimal limit)))))
+    Some (codes "attribute at location " ++ (decimal location ++ (codes " ends at byte " ++ (decimal given ++ (codes ", beyond " ++ decimal limit)))))
 words (InvalidVertexAttributeOffset location offset) =
-    Some (codes "the attribute at location " ++ (decimal location ++ (codes " has an offset of " ++ (decimal offset ++ codes ", which is unaligned or not below 268435456"))))
+    Some (codes "attribute at location " ++ (decimal location ++ (codes " has offset " ++ (decimal offset ++ codes ", unaligned or not below 2^28"))))
 words (VertexAttributeLocationTooLarge given limit) =
-    Some (codes "an attribute has location " ++ (decimal given ++ (codes ", which is not below the limit of " ++ decimal limit)))
+    Some (codes "location " ++ (decimal given ++ (codes " is not below the limit of " ++ decimal limit)))
 words (ShaderLocationClash location) = Some (codes "two attributes have location " ++ decimal location)
 words (TooManyVertexAttributes given limit) = Some (decimal given ++ (codes " vertex attributes are more than the limit of " ++ decimal limit))
 words (MissingFeatures e) = None

@@ -81,71 +81,68 @@ pub impl fmt::Display for VertexStateError as VertexStateErrorDisplay {
 
     fn fmt<W: fmt::Write>(&self, f: &mut fmt::Formatter<W>) -> fmt::Result {
         match self {
-            VertexStateError::AttributeRange {
+            Self::AttributeRange {
                 index,
                 given,
                 limit,
             } => {
                 write!(
                     f,
-                    "vertex buffer {index} marks attributes up to place {given}, but the list has {limit}"
+                    "vertex buffer {index} ends at attribute {given}, the list at {limit}"
                 )
             }
-            VertexStateError::TooManyVertexBuffers { given, limit } => {
+            Self::TooManyVertexBuffers { given, limit } => {
                 write!(
                     f,
                     "{given} vertex buffers are more than the limit of {limit}"
                 )
             }
-            VertexStateError::VertexStrideTooLarge {
+            Self::VertexStrideTooLarge {
                 index,
                 given,
                 limit,
             } => {
                 write!(
                     f,
-                    "vertex buffer {index} has a stride of {given}, above the limit of {limit}"
+                    "vertex buffer {index} has stride {given}, above the limit of {limit}"
                 )
             }
-            VertexStateError::UnalignedVertexStride { index, stride } => {
+            Self::UnalignedVertexStride { index, stride } => {
                 write!(
                     f,
-                    "vertex buffer {index} has a stride of {stride}, which is no multiple of 4"
+                    "vertex buffer {index} has stride {stride}, which is no multiple of 4"
                 )
             }
-            VertexStateError::VertexAttributeStrideTooLarge {
+            Self::VertexAttributeStrideTooLarge {
                 location,
                 given,
                 limit,
             } => {
                 write!(
                     f,
-                    "the attribute at location {location} ends at byte {given}, and may reach byte {limit}"
+                    "attribute at location {location} ends at byte {given}, beyond {limit}"
                 )
             }
-            VertexStateError::InvalidVertexAttributeOffset { location, offset } => {
+            Self::InvalidVertexAttributeOffset { location, offset } => {
                 write!(
                     f,
-                    "the attribute at location {location} has an offset of {offset}, which is unaligned or not below 268435456"
+                    "attribute at location {location} has offset {offset}, unaligned or not below 2^28"
                 )
             }
-            VertexStateError::VertexAttributeLocationTooLarge { given, limit } => {
-                write!(
-                    f,
-                    "an attribute has location {given}, which is not below the limit of {limit}"
-                )
+            Self::VertexAttributeLocationTooLarge { given, limit } => {
+                write!(f, "location {given} is not below the limit of {limit}")
             }
-            VertexStateError::ShaderLocationClash(location) => write!(
+            Self::ShaderLocationClash(location) => write!(
                 f,
                 "two attributes have location {location}"
             ),
-            VertexStateError::TooManyVertexAttributes { given, limit } => {
+            Self::TooManyVertexAttributes { given, limit } => {
                 write!(
                     f,
                     "{given} vertex attributes are more than the limit of {limit}"
                 )
             }
-            VertexStateError::MissingFeatures(e) => write!(f, "{e}"),
+            Self::MissingFeatures(e) => write!(f, "{e}"),
         }
     }
 }
