@@ -1,2 +1,3 @@
-pub mod Device
+pub mod Ceilings
+pub mod Lacking
 pub mod Words

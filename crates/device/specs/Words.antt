@@ -3,9 +3,9 @@ use mathlib.Core.List.{List, _++_}
 use Prim.Native.Nat.{ℕ}
 use lib.Chars.{codes}
 use Rattle.std.specs.Written.{decimal}
-use Rattle.device.specs.declared.machine.FailedLimit.{FailedLimit}
-use Rattle.device.specs.declared.machine.LimitName.{LimitName}
-use Rattle.device.specs.declared.machine.LimitName.the-variants.{MaxColorAttachments, MaxVertexBuffers, MaxVertexAttributes, MaxVertexBufferArrayStride, MaxColorAttachmentBytesPerSample}
+use Rattle.device.specs.declared.ceilings.FailedLimit.{FailedLimit}
+use Rattle.device.specs.declared.ceilings.LimitName.{LimitName}
+use Rattle.device.specs.declared.ceilings.LimitName.the-variants.{MaxColorAttachments, MaxVertexBuffers, MaxVertexAttributes, MaxVertexBufferArrayStride, MaxColorAttachmentBytesPerSample}
 
 abbrev pub limitWords : LimitName → List ℕ
 limitWords MaxColorAttachments = codes "max_color_attachments"

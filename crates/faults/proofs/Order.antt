@@ -81,6 +81,19 @@ module _ {X A E : Type 0} (R : List X → Result A E) (xs : List X) (i : ℕ) (x
   pub loop-passed : {B : Type 0} (a y : B) → Ok y ≡ answer o a → whole ≡ answer p b
   loop-passed a y r = here ∙ or-next o p y a b r
 
+-- the same, where the i-th element has a list of verdicts, before those of what follows
+module _ {X A E : Type 0} (R : List X → Result A E) (xs : List X) (i : ℕ) (x : X) (os ps : List (Option E)) (b : A)
+    (step : R (getD xs i x ∷ drop (i + 1) xs) ≡ answer (firstOf (os ++ ps)) b)
+    (h : i < length xs) (whole : Result A E) (q : whole ≡ R (drop i xs)) where
+  lists : R (getD xs i x ∷ drop (i + 1) xs) ≡ answer (orElse (firstOf os) (firstOf ps)) b
+  lists = step ∙ ap (λ o. answer o b) (firstOf-append os ps)
+
+  pub lists-refused : {B : Type 0} (a : B) (e : E) → Err e ≡ answer (firstOf os) a → Err e ≡ whole
+  lists-refused a e r = loop-refused R xs i x (firstOf os) (firstOf ps) b lists h whole q a e r
+
+  pub lists-passed : {B : Type 0} (a y : B) → Ok y ≡ answer (firstOf os) a → whole ≡ answer (firstOf ps) b
+  lists-passed a y r = loop-passed R xs i x (firstOf os) (firstOf ps) b lists h whole q a y r
+
 pub loop-ends : {X A E : Type 0} (R : List X → Result A E) (xs : List X) (i : ℕ) (whole : Result A E) → whole ≡ R (drop i xs) → length xs ≤ i → R [] ≡ whole
 loop-ends R xs i whole q h = sym (q ∙ at-drop-all R xs i h)
 

@@ -18,7 +18,7 @@ use Rattle.std.proofs.shelf.Lists.{getD-past, getD-map, getD-append-left, getD-
 use Rattle.std.proofs.shelf.Tests.{cases-lt, cond-both}
 use Rattle.faults.specs.Faults.{firstOf, answer, Judged}
 use Rattle.faults.proofs.Order.{judged}
-use Rattle.device.specs.declared.machine.Device.{Device}
+use Rattle.device.specs.declared.Device.{Device}
 use Rattle.descriptor.specs.Vertex.{attribute-end, partOf}
 use Rattle.descriptor.specs.declared.vertex.VertexAttribute.{VertexAttribute}
 use Rattle.descriptor.specs.declared.vertex.VertexBufferLayout.{VertexBufferLayout}

@@ -17,8 +17,8 @@ use Rattle.faults.specs.Faults.{firstOf, within, Judged}
 use Rattle.faults.proofs.Order.{all-none, none-all, both-none, none-both, each-none, none-each, not-if, if-not, judged}
 use Rattle.formats.specs.Features.{includes, vertex-attribute-64bit}
 use Rattle.formats.specs.Vertex.{is64bit}
-use Rattle.device.specs.Device.{featuresFault}
-use Rattle.device.specs.declared.machine.Device.{Device}
+use Rattle.device.specs.Lacking.{featuresFault}
+use Rattle.device.specs.declared.Device.{Device}
 use Rattle.descriptor.specs.Vertex.{attribute-end, partEnd, partOf, attributesOf}
 use Rattle.descriptor.specs.declared.vertex.VertexAttribute.{VertexAttribute}
 use Rattle.descriptor.specs.declared.vertex.VertexBufferLayout.{VertexBufferLayout}

@@ -1,4 +1,3 @@
-pub mod Fixed
 pub mod Kept
 pub mod Lawful
 pub mod Loops

@@ -1,22 +1,22 @@
 -- What is left of a loop's answer, from its state and the rest of its list, and one turn of it.
 use mathlib.Core.Bool.{Bool}
 use mathlib.Core.Path.{_≡_, refl, sym, _∙_, ap}
-use mathlib.Core.List.{List, [], _∷_, _++_}
-use Prim.Native.Nat.{ℕ, _+_, _<_, _≤_, max}
+use mathlib.Core.List.{List}
+use Prim.Native.Nat.{ℕ, _+_, _<_, max}
 use lib.ListN.{length, getD, drop}
 use Rattle.std.specs.declared.option.Option.{Option}
 use Rattle.std.specs.declared.result.Result.{Result}
 use Rattle.std.specs.declared.result.Result.the-variants.{Ok, Err}
 use Rattle.std.proofs.shelf.Lists.{at-drop-more}
-use Rattle.faults.specs.Faults.{orElse, firstOf, answer}
-use Rattle.faults.proofs.Order.{firstOf-append, loop-refused, loop-passed, value-from-ok}
-use Rattle.device.specs.declared.machine.Device.{Device}
+use Rattle.faults.specs.Faults.{firstOf, answer}
+use Rattle.faults.proofs.Order.{lists-refused, lists-passed, value-from-ok}
+use Rattle.device.specs.declared.Device.{Device}
 use Rattle.descriptor.specs.Vertex.{attribute-end}
 use Rattle.descriptor.specs.declared.vertex.VertexAttribute.{VertexAttribute}
 use Rattle.descriptor.specs.declared.vertex.VertexBufferLayout.{VertexBufferLayout}
 use Rattle.vertex.specs.declared.error.VertexStateError.{VertexStateError}
 use Rattle.vertex.specs.declared.step.VertexStep.{VertexStep}
-use Rattle.vertex.specs.Order.{attributeVerdicts, attributesVerdicts, greatestEnd, claimVerdicts, claimsVerdicts, mark, markAll, markSlot, rangeVerdict, rangesVerdicts, slotVerdicts, slotsVerdicts, stepOf}
+use Rattle.vertex.specs.Order.{attributeVerdicts, attributesVerdicts, greatestEnd, claimVerdicts, claimsVerdicts, mark, markAll, markSlot, rangesVerdicts, slotVerdicts, slotsVerdicts, stepOf}
 
 -- the answer of a check that has no value
 abbrev pub passes : Option VertexStateError → Result (Unit {0}) VertexStateError
@@ -34,15 +34,12 @@ module _ (d : Device) (most last : ℕ) (part : List VertexAttribute) (i : ℕ) 
   abbrev rest : List VertexAttribute
   rest = drop (i + 1) part
 
-  step : attributesAnswer d most last (at ∷ rest) ≡ answer (orElse (firstOf (attributeVerdicts d most at)) (firstOf (attributesVerdicts d most rest))) (greatestEnd (max last (attribute-end at)) rest)
-  step = ap (λ o. answer o (greatestEnd (max last (attribute-end at)) rest)) (firstOf-append (attributeVerdicts d most at) (attributesVerdicts d most rest))
-
   pub attributes-refused : (e : VertexStateError) → Err e ≡ answer (firstOf (attributeVerdicts d most at)) (attribute-end at) → Err e ≡ whole
-  attributes-refused e p = loop-refused (attributesAnswer d most last) part i a _ _ _ step h whole q (attribute-end at) e p
+  attributes-refused e p = lists-refused (attributesAnswer d most last) part i a (attributeVerdicts d most at) (attributesVerdicts d most rest) _ refl h whole q (attribute-end at) e p
 
   pub attributes-passed : (y next : ℕ) → Ok y ≡ answer (firstOf (attributeVerdicts d most at)) (attribute-end at) → next ≡ max last y → whole ≡ attributesAnswer d most next rest
   attributes-passed y next p n =
-      loop-passed (attributesAnswer d most last) part i a _ _ _ step h whole q (attribute-end at) y p
+      lists-passed (attributesAnswer d most last) part i a (attributeVerdicts d most at) (attributesVerdicts d most rest) _ refl h whole q (attribute-end at) y p
       ∙ ap (λ m. attributesAnswer d most m rest) (sym (n ∙ ap (max last) (value-from-ok _ _ y p)))
 
 -- the ranges of the slots from an index on
@@ -61,15 +58,12 @@ module _ (d : Device) (used : ℕ → Bool) (part : List VertexAttribute) (i : �
   abbrev others : List VertexAttribute
   others = drop (i + 1) part
 
-  turn : claimsAnswer d used (claimant ∷ others) ≡ passes (orElse (firstOf (claimVerdicts d used claimant)) (firstOf (claimsVerdicts d (mark used claimant) others)))
-  turn = ap passes (firstOf-append (claimVerdicts d used claimant) (claimsVerdicts d (mark used claimant) others))
-
   pub claims-refused : (e : VertexStateError) → Err e ≡ passes (firstOf (claimVerdicts d used claimant)) → Err e ≡ whole
-  claims-refused e p = loop-refused (claimsAnswer d used) part i a _ _ _ turn h whole q tt e p
+  claims-refused e p = lists-refused (claimsAnswer d used) part i a (claimVerdicts d used claimant) (claimsVerdicts d (mark used claimant) others) tt refl h whole q tt e p
 
   pub claims-passed : (next : ℕ → Bool) → next ≡ mark used claimant → Ok tt ≡ passes (firstOf (claimVerdicts d used claimant)) → whole ≡ claimsAnswer d next others
   claims-passed next n p =
-      loop-passed (claimsAnswer d used) part i a _ _ _ turn h whole q tt tt p ∙ ap (λ u. claimsAnswer d u others) (sym n)
+      lists-passed (claimsAnswer d used) part i a (claimVerdicts d used claimant) (claimsVerdicts d (mark used claimant) others) tt refl h whole q tt tt p ∙ ap (λ u. claimsAnswer d u others) (sym n)
 
   -- what is claimed in the end, from what is claimed after one more
   pub marks-more : (all next : ℕ → Bool) → all ≡ markAll used (drop i part) → next ≡ mark used claimant → all ≡ markAll next others
@@ -87,13 +81,10 @@ module _ (d : Device) (attributes : List VertexAttribute) (used : ℕ → Bool) 
   abbrev later : List (Option VertexBufferLayout)
   later = drop (i + 1) slots
 
-  here : slotsAnswer d attributes i used (slot ∷ later) ≡ passes (orElse (firstOf (slotVerdicts d attributes i used slot)) (firstOf (slotsVerdicts d attributes (i + 1) (markSlot attributes used slot) later)))
-  here = ap passes (firstOf-append (slotVerdicts d attributes i used slot) (slotsVerdicts d attributes (i + 1) (markSlot attributes used slot) later))
-
   pub slots-refused : (e : VertexStateError) → Err e ≡ answer (firstOf (slotVerdicts d attributes i used slot)) (stepOf attributes slot) → Err e ≡ whole
-  slots-refused e p = loop-refused (slotsAnswer d attributes i used) slots i o _ _ _ here h whole q (stepOf attributes slot) e p
+  slots-refused e p = lists-refused (slotsAnswer d attributes i used) slots i o (slotVerdicts d attributes i used slot) (slotsVerdicts d attributes (i + 1) (markSlot attributes used slot) later) tt refl h whole q (stepOf attributes slot) e p
 
   pub slots-passed : (y : Option VertexStep) (next : ℕ → Bool) → next ≡ markSlot attributes used slot → Ok y ≡ answer (firstOf (slotVerdicts d attributes i used slot)) (stepOf attributes slot) → whole ≡ slotsAnswer d attributes (i + 1) next later
   slots-passed y next n p =
-      loop-passed (slotsAnswer d attributes i used) slots i o _ _ _ here h whole q (stepOf attributes slot) y p
+      lists-passed (slotsAnswer d attributes i used) slots i o (slotVerdicts d attributes i used slot) (slotsVerdicts d attributes (i + 1) (markSlot attributes used slot) later) tt refl h whole q (stepOf attributes slot) y p
       ∙ ap (λ u. slotsAnswer d attributes (i + 1) u later) (sym n)

@@ -14,7 +14,7 @@ use Rattle.std.proofs.shelf.Elements.{all-weaker}
 use Rattle.std.proofs.shelf.Tests.{leb-false, ltb-false, le-ltb}
 use Rattle.faults.specs.Faults.{orElse, firstOf, answer}
 use Rattle.faults.proofs.Order.{at-first, at-next, value-from-ok, none-from-ok, same-refusal, same-acceptance, all-none, none-all, each-none, not-if, if-not}
-use Rattle.device.specs.declared.machine.Device.{Device}
+use Rattle.device.specs.declared.Device.{Device}
 use Rattle.descriptor.specs.declared.vertex.VertexAttribute.{VertexAttribute}
 use Rattle.descriptor.specs.declared.vertex.VertexBufferLayout.{VertexBufferLayout}
 use Rattle.vertex.specs.declared.error.VertexStateError.{VertexStateError}

@@ -9,7 +9,7 @@ use Rattle.std.specs.declared.result.Result.{Result}
 use Rattle.std.specs.declared.result.Result.the-variants.{Ok, Err}
 use Rattle.faults.specs.Faults.{orElse, firstOf, answer}
 use Rattle.faults.proofs.Order.{at-first, at-next, or-first, or-next, or-none, same-acceptance, same-refusal, value-from-ok}
-use Rattle.device.specs.declared.machine.Device.{Device}
+use Rattle.device.specs.declared.Device.{Device}
 use Rattle.descriptor.specs.declared.vertex.VertexAttribute.{VertexAttribute}
 use Rattle.descriptor.specs.declared.vertex.VertexBufferLayout.{VertexBufferLayout}
 use Rattle.vertex.specs.declared.error.VertexStateError.{VertexStateError}

@@ -1,6 +1,6 @@
 -- The number of each fault of a vertex state in the rule book.
 use Prim.Native.Nat.{ℕ}
-use Rattle.device.specs.Device.{missingFeaturesNumber}
+use Rattle.device.specs.Lacking.{missingFeaturesNumber}
 use Rattle.vertex.specs.declared.error.VertexStateError.{VertexStateError}
 use Rattle.vertex.specs.declared.error.VertexStateError.the-variants.{AttributeRange, TooManyVertexBuffers, VertexStrideTooLarge, UnalignedVertexStride, VertexAttributeStrideTooLarge, InvalidVertexAttributeOffset, VertexAttributeLocationTooLarge, ShaderLocationClash, TooManyVertexAttributes, MissingFeatures}
 

@@ -10,8 +10,8 @@ use Rattle.std.specs.declared.option.Option.the-variants.{Some, None}
 use Rattle.faults.specs.Faults.{fault-if, firstOf, within}
 use Rattle.formats.specs.Features.{vertex-attribute-64bit}
 use Rattle.formats.specs.Vertex.{sizeOf, is64bit}
-use Rattle.device.specs.Device.{featuresFault}
-use Rattle.device.specs.declared.machine.Device.{Device}
+use Rattle.device.specs.Lacking.{featuresFault}
+use Rattle.device.specs.declared.Device.{Device}
 use Rattle.descriptor.specs.Vertex.{attribute-end, capped, partEnd, partOf}
 use Rattle.descriptor.specs.declared.vertex.VertexAttribute.{VertexAttribute}
 use Rattle.descriptor.specs.declared.vertex.VertexBufferLayout.{VertexBufferLayout}

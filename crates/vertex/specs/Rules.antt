@@ -14,7 +14,7 @@ use Rattle.std.specs.declared.result.Result.the-variants.{Ok, Err}
 use Rattle.faults.specs.Faults.{Judged}
 use Rattle.formats.specs.Features.{includes, vertex-attribute-64bit}
 use Rattle.formats.specs.Vertex.{sizeOf, is64bit}
-use Rattle.device.specs.declared.machine.Device.{Device}
+use Rattle.device.specs.declared.Device.{Device}
 use Rattle.descriptor.specs.Vertex.{attribute-end, partEnd, partOf, attributesOf}
 use Rattle.descriptor.specs.declared.vertex.VertexAttribute.{VertexAttribute}
 use Rattle.descriptor.specs.declared.vertex.VertexBufferLayout.{VertexBufferLayout}

@@ -3,8 +3,8 @@ ghost use mathlib.Core.Path.{_≡_};
 ghost use Rattle.vertex.specs.Numbers.{numberOf};
 ghost use Rattle.vertex.specs.Words.{words};
 ghost use Rattle.vertex.specs.declared.error.VertexStateError.the-variants.{MissingFeatures as Lacks};
-use device::machine::MissingFeatures;
-use device::machine::MissingFeaturesDisplay;
+use device::MissingFeatures;
+use device::MissingFeaturesDisplay;
 use std::fmt;
 
 #[derive(Clone, Copy)]

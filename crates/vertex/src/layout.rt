@@ -17,7 +17,7 @@ use crate::step::VertexStep;
 use descriptor::vertex::VertexAttribute;
 use descriptor::vertex::VertexBufferLayout;
 use descriptor::vertex::VertexState;
-use device::machine::Device;
+use device::Device;
 use formats::features::Features;
 use formats::vertex::VertexFormat;
 use keyed::Entry;

@@ -7,7 +7,7 @@ use Rattle.std.proofs.shelf.Results.{err-from-errBy}
 use Rattle.faults.proofs.Order.{value-from-ok, same-refusal, same-acceptance, loop-ends}
 use Rattle.vertex.specs.Claims.{claimed, InList}
 use Rattle.vertex.specs.Order.{stepOf, stepsOf}
-use Rattle.vertex.proofs.Fixed.{filled-more, filled-all}
+use Rattle.faults.proofs.Fixed.{filled-more, filled-all}
 use Rattle.vertex.proofs.Loops.{slotsAnswer, slots-refused, slots-passed}
 use Rattle.vertex.proofs.Room.{none-claimed, all-room}
 use Rattle.vertex.proofs.Slots.{all-stay}

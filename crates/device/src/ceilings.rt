@@ -1,17 +1,10 @@
-// A device, and the refusals that are its own: a limit above its ceiling, and a feature that it lacks.
+// The limits that a caller asks for, and the refusal of one above its ceiling.
 ghost use mathlib.Core.Path.{_≡_};
 ghost use Rattle.std.specs.declared.option.Option.the-variants.{Some};
-ghost use Rattle.faults.specs.Faults.{answer};
+ghost use Rattle.device.specs.Ceilings.{aboveCeiling, Limited, Taken, failedLimitNumber};
 ghost use Rattle.device.specs.Words.{limitWords, failedLimitWords};
-ghost use Rattle.device.specs.Device.{aboveCeiling, Limited, featuresFault, failedLimitNumber, missingFeaturesNumber};
 use crate::limits::Limits;
 use faults::first_fault;
-use formats::features::DownlevelFlags;
-use formats::features::Features;
-use formats::features::FeaturesDebug;
-use formats::features::FeaturesDisplay;
-use formats::features::FeaturesEq;
-use formats::features::FeaturesPartialEq;
 use std::fmt;
 
 #[derive(Clone, Copy, PartialEq, Eq, Debug)]
@@ -95,7 +88,8 @@ fn check_ceiling(name: LimitName, requested: u32, allowed: u32) -> Option<Failed
 impl Limits {
     // The limits asked for, or the first of them, in the order of the record, that is above its ceiling.
     pub fn new(required: &RequiredLimits) -> Result<Limits, FailedLimit>
-        ensures { λ r. ⌜ Limited (now (required .entry)) r ⌝ }
+        ensures value { λ r. ⌜ Limited (now (required .entry)) r ⌝ }
+        ensures exactly { λ r. ⌜ Taken (now (required .entry)) r ⌝ }
     {
         let verdicts = [
             check_ceiling(
@@ -130,46 +124,5 @@ impl Limits {
             max_vertex_buffer_array_stride: required.max_vertex_buffer_array_stride,
             max_color_attachment_bytes_per_sample: required.max_color_attachment_bytes_per_sample,
         })
-    }
-}
-
-// Features that a style needs and the device lacks.
-#[derive(Clone, Copy, PartialEq, Eq, Debug)]
-pub struct MissingFeatures(pub Features);
-
-impl MissingFeatures {
-    pub fn number(&self) -> u32
-        ensures { λ r. ⌜ r ≡ missingFeaturesNumber (now (self .entry)) ⌝ }
-    {
-        23
-    }
-}
-
-pub impl fmt::Display for MissingFeatures as MissingFeaturesDisplay {
-    fn fmt<W: fmt::Write>(&self, f: &mut fmt::Formatter<W>) -> fmt::Result {
-        let features = self.0;
-        write!(
-            f,
-            "the device lacks the feature that this needs: {features}"
-        )
-    }
-}
-
-#[derive(Clone, Copy)]
-pub struct Device {
-    pub limits: Limits,
-    pub features: Features,
-    pub downlevel: DownlevelFlags,
-}
-
-impl Device {
-    // Whether the device has the features; if not, the refusal names all that were asked for.
-    pub fn require_features(&self, features: Features) -> Result<(), MissingFeatures>
-        ensures { λ r. ⌜ r ≡ answer (featuresFault (now (self .entry)) features) tt ⌝ }
-    {
-        if !self.features.contains(features) {
-            return Err(MissingFeatures(features));
-        }
-        Ok(())
     }
 }

@@ -1,4 +1,4 @@
-use Rattle.device.proofs.machine.LimitNameDisplay.fmt.Needs as need
+use Rattle.device.proofs.ceilings.LimitNameDisplay.fmt.Needs as need
 
 pub returns-in-MaxColorAttachmentBytesPerSample : need.returns-in-MaxColorAttachmentBytesPerSample
 returns-in-MaxColorAttachmentBytesPerSample g c =
