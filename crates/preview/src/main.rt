@@ -58,7 +58,7 @@ fn show_slot(rt: &LibcRuntime, index: usize, slot: Option<VertexBufferLayout>) -
     let count = s.count;
     println!(
         rt,
-        "   buffer {index}: stride {stride}, by {mode}, {count} attributes from place {first} on"
+        "   buffer {index}: stride {stride}, by {mode}, attributes: {count} from place {first}"
     )
 }
 
