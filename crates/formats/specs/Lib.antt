@@ -1,2 +1,4 @@
 pub mod Features
+pub mod Samples
+pub mod Texture
 pub mod Vertex

@@ -1,6 +1,6 @@
 // What a device can do beyond the least: a set of features and a set of downlevel flags, a bit a name.
 ghost use mathlib.Core.Path.{_≡_};
-ghost use Rattle.formats.specs.Features.{holds, includes, includesFlags};
+ghost use Rattle.formats.specs.Features.{holds, includes, includesFlags, no-features, united};
 use std::fmt;
 
 // Whether each bit of `bits` is set in `word`.
@@ -40,11 +40,26 @@ impl Features {
 
     pub const SELECTIVE_MULTIVIEW: Features = Features { bits: 1 << 11 };
 
+    pub fn empty() -> Features
+        ensures { λ r. ⌜ r ≡ no-features ⌝ }
+    {
+        Features { bits: 0 }
+    }
+
     // Every bit is kept, also one that has no name.
     pub fn from_bits_retain(bits: u32) -> Features
         ensures { λ r. ⌜ r .bits ≡ bits ⌝ }
     {
         Features { bits }
+    }
+
+    // The features of both.
+    pub fn union(self, other: Features) -> Features
+        ensures { λ r. ⌜ r ≡ united self other ⌝ }
+    {
+        Features {
+            bits: self.bits | other.bits,
+        }
     }
 
     // Whether each of the features is among these.
