@@ -1,11 +1,12 @@
 -- Two texture formats are the same exactly if their places are.
-use mathlib.Core.Bool.{true}
+use mathlib.Core.Bool.{Bool, true, false}
 use mathlib.Core.List.{List, [], _∷_}
+use mathlib.Core.Logic.{inl, inr}
 use mathlib.Core.Path.{_≡_, refl, sym, _∙_, ap}
 use Prim.Native.Nat.{ℕ}
 use lib.Dec.{eqb}
 use lib.ListN.{getD}
-use Rattle.std.proofs.shelf.Tests.{eqb-true, eq-eqb}
+use Rattle.std.proofs.shelf.Tests.{eqb-true, eq-eqb, cases-bool, false≢true}
 use Rattle.std.specs.Orderings.{Decides}
 use Rattle.formats.specs.Texture.{placeOf, sameFormat}
 use Rattle.formats.specs.declared.texture.TextureFormat.{TextureFormat}
@@ -66,3 +67,11 @@ means-same a b p = eq-eqb (placeOf a) (placeOf b) (ap placeOf p)
 
 pub decides : (a b : TextureFormat) → Decides (sameFormat a b) (a ≡ b)
 decides a b = (same-means a b, means-same a b)
+
+-- what decides whether two formats are the same is that test
+pub decided : (a b : TextureFormat) (r : Bool) → Decides r (a ≡ b) → r ≡ sameFormat a b
+decided a b true d = sym (means-same a b (d .0 refl))
+decided a b false d = elim (cases-bool (sameFormat a b)) [ inl t ↦ absurd (false≢true (d .1 (same-means a b t))) | inr f ↦ sym f ]
+
+pub differ : (a b : TextureFormat) → (a ≡ b → ⊥) → sameFormat a b ≡ false
+differ a b n = elim (cases-bool (sameFormat a b)) [ inl t ↦ absurd (n (same-means a b t)) | inr f ↦ f ]

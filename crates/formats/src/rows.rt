@@ -134,6 +134,7 @@ pub fn row_of(format: TextureFormat) -> Row
     ensures small { λ r. ⌜ table.Small (r .cost) ⌝ }
 {
     let none = Features::empty();
+    let combined = Features::DEPTH32FLOAT_STENCIL8;
     match format {
         TextureFormat::R8Unorm => target(1, 1, BLENDED),
         TextureFormat::R8Uint | TextureFormat::R8Sint => target(1, 1, SAMPLED),
@@ -159,14 +160,13 @@ pub fn row_of(format: TextureFormat) -> Row
         TextureFormat::Rg11b10Ufloat => target(8, 4, RG11B10UFLOAT),
         TextureFormat::Rgb9e5Ufloat => colored(None, UNUSED),
         TextureFormat::Stencil8 => depth_stencil(false, true, none),
-        TextureFormat::Depth16Unorm => depth_stencil(true, false, none),
-        TextureFormat::Depth24Plus => depth_stencil(true, false, none),
+        TextureFormat::Depth16Unorm | TextureFormat::Depth24Plus => depth_stencil(
+            true,
+            false,
+            none,
+        ),
         TextureFormat::Depth24PlusStencil8 => depth_stencil(true, true, none),
         TextureFormat::Depth32Float => depth_stencil(true, false, none),
-        TextureFormat::Depth32FloatStencil8 => depth_stencil(
-            true,
-            true,
-            Features::DEPTH32FLOAT_STENCIL8,
-        ),
+        TextureFormat::Depth32FloatStencil8 => depth_stencil(true, true, combined),
     }
 }
