@@ -58,3 +58,28 @@ impl TextureFormatFeatureFlags {
             + self.count_or_zero(16)
     }
 }
+
+#[cfg(test)]
+mod tests {
+    use super::*;
+    use std::test::*;
+
+    const TWO_AND_EIGHT: TextureFormatFeatureFlags = TextureFormatFeatureFlags {
+        blendable: true,
+        multisample_x2: true,
+        multisample_x4: false,
+        multisample_x8: true,
+        multisample_x16: false,
+    };
+
+    #[test]
+    fn counts() -> Result<(), Fail> {
+        check(TWO_AND_EIGHT.sample_count_supported(1))?;
+        check(TWO_AND_EIGHT.sample_count_supported(8))?;
+        check(!TWO_AND_EIGHT.sample_count_supported(0))?;
+        check(!TWO_AND_EIGHT.sample_count_supported(3))?;
+        check(!TWO_AND_EIGHT.sample_count_supported(4))?;
+        check(!TWO_AND_EIGHT.sample_count_supported(32))?;
+        check_eq(TWO_AND_EIGHT.supported_sample_counts(), 11)
+    }
+}

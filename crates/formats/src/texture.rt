@@ -67,6 +67,49 @@ pub struct TargetCost {
 }
 
 impl TextureFormat {
+    pub const ALL: [TextureFormat; 40] = [
+        TextureFormat::R8Unorm,
+        TextureFormat::R8Uint,
+        TextureFormat::R8Sint,
+        TextureFormat::Rg8Unorm,
+        TextureFormat::Rg8Uint,
+        TextureFormat::Rg8Sint,
+        TextureFormat::Rgba8Uint,
+        TextureFormat::Rgba8Sint,
+        TextureFormat::Rgba8Unorm,
+        TextureFormat::Rgba8UnormSrgb,
+        TextureFormat::Bgra8Unorm,
+        TextureFormat::Bgra8UnormSrgb,
+        TextureFormat::R16Uint,
+        TextureFormat::R16Sint,
+        TextureFormat::R16Float,
+        TextureFormat::Rg16Uint,
+        TextureFormat::Rg16Sint,
+        TextureFormat::Rg16Float,
+        TextureFormat::Rgba16Uint,
+        TextureFormat::Rgba16Sint,
+        TextureFormat::Rgba16Float,
+        TextureFormat::R32Uint,
+        TextureFormat::R32Sint,
+        TextureFormat::R32Float,
+        TextureFormat::Rg32Uint,
+        TextureFormat::Rg32Sint,
+        TextureFormat::Rg32Float,
+        TextureFormat::Rgba32Uint,
+        TextureFormat::Rgba32Sint,
+        TextureFormat::Rgba32Float,
+        TextureFormat::Rgb10a2Uint,
+        TextureFormat::Rgb10a2Unorm,
+        TextureFormat::Rg11b10Ufloat,
+        TextureFormat::Rgb9e5Ufloat,
+        TextureFormat::Stencil8,
+        TextureFormat::Depth16Unorm,
+        TextureFormat::Depth24Plus,
+        TextureFormat::Depth24PlusStencil8,
+        TextureFormat::Depth32Float,
+        TextureFormat::Depth32FloatStencil8,
+    ];
+
     fn place(self) -> usize
         ensures { λ r. ⌜ r ≡ placeOf self ⌝ }
     {
@@ -125,3 +168,18 @@ pub impl PartialEq<TextureFormat> for TextureFormat as TextureFormatPartialEq {
 }
 
 pub impl Eq for TextureFormat as TextureFormatEq {}
+
+#[cfg(test)]
+mod tests {
+    use super::*;
+    use std::test::*;
+
+    // No format is left out of the list.
+    #[test]
+    fn all() -> Result<(), Fail> {
+        for (place, format) in TextureFormat::ALL.iter().enumerate() {
+            check_eq(format.place(), place)?;
+        }
+        Ok(())
+    }
+}

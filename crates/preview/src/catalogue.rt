@@ -1,8 +1,12 @@
-// The catalogue: good layouts, and ones with each kind of fault.
+// The catalogue: good layouts, and ones with each kind of fault; and the texture formats of a machine that lists its own.
+use adapter::listed::FormatRow;
 use descriptor::vertex::VertexAttribute;
 use descriptor::vertex::VertexBufferLayout;
 use descriptor::vertex::VertexState;
 use descriptor::vertex::VertexStepMode;
+use formats::format_features::TextureFormatFeatureFlags;
+use formats::format_features::TextureFormatFeatures;
+use formats::texture::TextureFormat;
 use formats::vertex::VertexFormat;
 
 #[derive(Clone, Copy)]
@@ -323,4 +327,54 @@ pub const WIDE: [Sample<'static>; 3] = [
             }],
         },
     },
+];
+
+// Rgba8Unorm stands twice, and its first row answers; R8Unorm has none.
+pub const FIELD_ROWS: [FormatRow; 3] = [
+    FormatRow {
+        format: TextureFormat::Rgba8Unorm,
+        features: TextureFormatFeatures {
+            renderable: true,
+            flags: TextureFormatFeatureFlags {
+                blendable: true,
+                multisample_x2: true,
+                multisample_x4: true,
+                multisample_x8: true,
+                multisample_x16: false,
+            },
+        },
+    },
+    FormatRow {
+        format: TextureFormat::Rgba32Float,
+        features: TextureFormatFeatures {
+            renderable: true,
+            flags: TextureFormatFeatureFlags {
+                blendable: true,
+                multisample_x2: false,
+                multisample_x4: true,
+                multisample_x8: false,
+                multisample_x16: false,
+            },
+        },
+    },
+    FormatRow {
+        format: TextureFormat::Rgba8Unorm,
+        features: TextureFormatFeatures {
+            renderable: false,
+            flags: TextureFormatFeatureFlags {
+                blendable: false,
+                multisample_x2: false,
+                multisample_x4: false,
+                multisample_x8: false,
+                multisample_x16: false,
+            },
+        },
+    },
+];
+
+pub const ASKED: [TextureFormat; 4] = [
+    TextureFormat::Rgba8Unorm,
+    TextureFormat::Rgba32Float,
+    TextureFormat::R8Unorm,
+    TextureFormat::Depth32FloatStencil8,
 ];

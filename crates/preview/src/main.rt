@@ -1,10 +1,26 @@
-// The preview: judges a catalogue of vertex layouts for a panel, and prints of each what was judged and the verdict.
+// The preview: judges a catalogue of vertex layouts for a panel, and prints of each what was judged and the verdict;
+// then it prints which texture formats the panel can draw on.
 mod catalogue;
+mod cells;
 
+use adapter::Adapter;
+use adapter::describe_format_features;
+use adapter::guaranteed::GuaranteedAdapter;
+use adapter::guaranteed::GuaranteedAdapterAdapter;
+use adapter::listed::ListedAdapter;
+use adapter::listed::ListedAdapterAdapter;
 use catalogue::ACCEPTED;
+use catalogue::ASKED;
+use catalogue::FIELD_ROWS;
 use catalogue::REFUSED;
 use catalogue::Sample;
 use catalogue::WIDE;
+use cells::Aspects;
+use cells::AspectsDisplay;
+use cells::Cost;
+use cells::CostDisplay;
+use cells::Uses;
+use cells::UsesDisplay;
 use descriptor::vertex::VertexAttribute;
 use descriptor::vertex::VertexBufferLayout;
 use descriptor::vertex::VertexState;
@@ -15,6 +31,9 @@ use device::ceilings::RequiredLimits;
 use device::limits::Limits;
 use formats::features::DownlevelFlags;
 use formats::features::Features;
+use formats::features::FeaturesDisplay;
+use formats::texture::TextureFormat;
+use formats::texture::TextureFormatDebug;
 use formats::vertex::VertexFormatDebug;
 use std::io;
 use vertex::error::VertexStateErrorDisplay;
@@ -150,11 +169,107 @@ fn ask(
     }
 }
 
+// Each format with what the device can do with it, as it is and with more features.
+fn show_table<A: Adapter>(
+    rt: &LibcRuntime,
+    adapter: &A,
+    device: &Device,
+    more: &Device,
+) -> io::Result<()> {
+    println!(
+        rt,
+        "| Format | Aspects | Byte cost | Without the features | With the features |"
+    )?;
+    for format in TextureFormat::ALL {
+        let aspects = Aspects(format.aspects());
+        let cost = Cost(format.target_cost());
+        let without = Uses(describe_format_features(device, adapter, format));
+        let with = Uses(describe_format_features(more, adapter, format));
+        println!(
+            rt,
+            "| {format:?} | {aspects} | {cost} | {without} | {with} |"
+        )?;
+    }
+    Ok(())
+}
+
+// What the device can do with the formats that are asked for.
+fn show_formats<A: Adapter>(
+    rt: &LibcRuntime,
+    name: &str,
+    adapter: &A,
+    device: &Device,
+    asked: &[TextureFormat],
+) -> io::Result<()> {
+    println!(rt, "-- {name}")?;
+    for format in asked {
+        let uses = Uses(describe_format_features(device, adapter, *format));
+        println!(rt, "   {format:?}: {uses}")?;
+    }
+    Ok(())
+}
+
+// The formats of the panel, by the table.
+fn show_panel_formats(rt: &LibcRuntime, panel: &Device) -> io::Result<()> {
+    let adapter = GuaranteedAdapter {
+        features: panel.features,
+    };
+    let features = Features::FLOAT32_BLENDABLE.union(Features::RG11B10UFLOAT_RENDERABLE);
+    println!(
+        rt,
+        "== the texture formats of the panel, without and with {features}"
+    )?;
+    let more = Device { features, ..*panel };
+    show_table(rt, &adapter, panel, &more)?;
+    let combined = Device {
+        features: Features::DEPTH32FLOAT_STENCIL8,
+        ..*panel
+    };
+    show_formats(
+        rt,
+        "the panel, with DEPTH32FLOAT_STENCIL8",
+        &adapter,
+        &combined,
+        &[TextureFormat::Depth32FloatStencil8],
+    )
+}
+
+// The formats of a machine that lists its own, where the device goes by the list and where it goes by the table.
+fn show_listed_formats(rt: &LibcRuntime, panel: &Device) -> io::Result<()> {
+    println!(rt, "== a machine that lists its texture formats")?;
+    let adapter = ListedAdapter { rows: &FIELD_ROWS };
+    let specific = Device {
+        features: Features::TEXTURE_ADAPTER_SPECIFIC_FORMAT_FEATURES,
+        ..*panel
+    };
+    let downlevel = Device {
+        downlevel: DownlevelFlags::INDEPENDENT_BLEND,
+        ..*panel
+    };
+    show_formats(
+        rt,
+        "with TEXTURE_ADAPTER_SPECIFIC_FORMAT_FEATURES, by the list",
+        &adapter,
+        &specific,
+        &ASKED,
+    )?;
+    show_formats(
+        rt,
+        "without WEBGPU_TEXTURE_FORMAT_SUPPORT, by the list",
+        &adapter,
+        &downlevel,
+        &ASKED,
+    )?;
+    show_formats(rt, "as the panel, by the table", &adapter, panel, &ASKED)
+}
+
 fn main(rt: LibcRuntime) -> io::Result<()> {
-    let none = Features::from_bits_retain(0);
+    let none = Features::empty();
     if let Some(device) = ask(&rt, "the panel", &PANEL, none)? {
         judge_all(&rt, &device, &ACCEPTED)?;
         judge_all(&rt, &device, &REFUSED)?;
+        show_panel_formats(&rt, &device)?;
+        show_listed_formats(&rt, &device)?;
     }
     if let Some(device) = ask(
         &rt,
