@@ -23,6 +23,7 @@ abbrev pub listed : List FormatRow → TextureFormat → TextureFormatFeatures
 listed [] f = nothing
 listed (row ∷ rows) f = cond (sameFormat (row .format) f) (row .features) (listed rows f)
 
+-- the row at a place of the list
 abbrev pub rowAt : List FormatRow → ℕ → FormatRow
 rowAt rows k = getD rows k (record { format = R8Unorm; features = nothing })
 

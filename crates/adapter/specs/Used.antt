@@ -29,6 +29,10 @@ used d answers f = cond (asksAdapter d) (answers f) (guaranteed (d .features) f)
 abbrev pub answerUsed : Device → Answers → TextureFormat → Result TextureFormatFeatures MissingFeatures
 answerUsed d answers f = answer (featuresFault d (requiredOf f)) (used d answers f)
 
--- every adapter with the same answers would have got the same
+-- the two answer every format alike
+abbrev pub SameMap : Answers → Answers → Type 0
+SameMap answers others = (f : TextureFormat) → others f ≡ answers f
+
+-- every adapter with the same map gets the same answer used
 abbrev pub SameForSameMap : Device → Answers → TextureFormat → Result TextureFormatFeatures MissingFeatures → Type 0
-SameForSameMap d answers f r = (others : Answers) → ((g : TextureFormat) → others g ≡ answers g) → answerUsed d others f ≡ r
+SameForSameMap d answers f r = (others : Answers) → SameMap answers others → answerUsed d others f ≡ r

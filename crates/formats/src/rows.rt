@@ -1,6 +1,5 @@
 // The table of the texture formats.
 ghost use mathlib.Core.Path.{_≡_};
-ghost use Rattle.std.specs.declared.option.Option.the-variants.{None};
 ghost use Rattle.formats.specs.Texture as table;
 use crate::features::Features;
 use crate::texture::FormatAspects;
