@@ -48,6 +48,7 @@ depth32float-stencil8 = featureAt 8
 abbrev pub texture-adapter-specific-format-features : Features
 texture-adapter-specific-format-features = featureAt 9
 
+-- the set of the one flag at a place
 abbrev pub flagAt : ℕ → DownlevelFlags
 flagAt place = record { bits = 2 ^ place }
 
