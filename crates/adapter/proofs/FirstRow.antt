@@ -1,5 +1,5 @@
 -- The first row of a format answers.
-use mathlib.Core.Bool.{Bool, true, false, cond}
+use mathlib.Core.Bool.{Bool, cond}
 use mathlib.Core.List.{List, [], _∷_}
 use mathlib.Core.Path.{_≡_, refl, sym, ap, _∙_}
 use Prim.Native.Nat.{ℕ, zero, suc, _+_, _<_, _≤_}
@@ -9,7 +9,6 @@ use lib.ListN.{length, drop}
 use Rattle.std.proofs.shelf.Lists.{at-drop-more, at-drop-all}
 use Rattle.std.specs.Orderings.{Decides}
 use Rattle.formats.proofs.Same.{means-same, decided, differ}
-use Rattle.formats.specs.Texture.{sameFormat}
 use Rattle.formats.specs.declared.format_features.TextureFormatFeatures.{TextureFormatFeatures}
 use Rattle.formats.specs.declared.texture.TextureFormat.{TextureFormat}
 use Rattle.adapter.specs.Listed.{nothing, listed, rowAt, NoneBefore, FirstRowAnswers}

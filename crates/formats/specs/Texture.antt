@@ -46,9 +46,11 @@ float32-sampled = uses-of Always (With float32-blendable) Always
 abbrev pub rg11b10ufloat : Uses
 rg11b10ufloat = uses-of (With rg11b10ufloat-renderable) (With rg11b10ufloat-renderable) (With rg11b10ufloat-renderable)
 
+-- nothing can be done
 abbrev pub unused : Uses
 unused = uses-of Never Never Never
 
+-- a color format, of which a target has this cost, or none
 abbrev pub colored : Option TargetCost → Uses → Row
 colored cost uses =
     record {

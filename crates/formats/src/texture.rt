@@ -123,7 +123,7 @@ impl TextureFormat {
         row_of(self).aspects
     }
 
-    // Some formats cannot be paid for, and have no cost.
+    // None where no color target has the format.
     pub fn target_cost(self) -> Option<TargetCost>
         ensures rule { λ r. ⌜ r ≡ costOf self ⌝ }
         ensures multiple { λ r. ⌜ Multiple r ⌝ }

@@ -330,7 +330,7 @@ pub const WIDE: [Sample<'static>; 3] = [
 ];
 
 // Rgba8Unorm stands twice, and its first row answers; R8Unorm has none.
-pub const FIELD_ROWS: [FormatRow; 3] = [
+pub const LISTED_ROWS: [FormatRow; 3] = [
     FormatRow {
         format: TextureFormat::Rgba8Unorm,
         features: TextureFormatFeatures {

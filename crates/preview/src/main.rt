@@ -11,7 +11,7 @@ use adapter::listed::ListedAdapter;
 use adapter::listed::ListedAdapterAdapter;
 use catalogue::ACCEPTED;
 use catalogue::ASKED;
-use catalogue::FIELD_ROWS;
+use catalogue::LISTED_ROWS;
 use catalogue::REFUSED;
 use catalogue::Sample;
 use catalogue::WIDE;
@@ -237,7 +237,7 @@ fn show_panel_formats(rt: &LibcRuntime, panel: &Device) -> io::Result<()> {
 // The formats of a machine that lists its own, where the device goes by the list and where it goes by the table.
 fn show_listed_formats(rt: &LibcRuntime, panel: &Device) -> io::Result<()> {
     println!(rt, "== a machine that lists its texture formats")?;
-    let adapter = ListedAdapter { rows: &FIELD_ROWS };
+    let adapter = ListedAdapter { rows: &LISTED_ROWS };
     let specific = Device {
         features: Features::TEXTURE_ADAPTER_SPECIFIC_FORMAT_FEATURES,
         ..*panel
