@@ -5,4 +5,4 @@ use Rattle.depth_stencil.proofs.check_depth_stencil_state.Goals as goal
 pub returns-in-Some : goal.returns-in-Some
 returns-in-Some g c =
     rw c.in-Some.is
-    (depth_stencil_judged c.args.device.now (g.A.Adapter.answers c.args.adapter.now) c.args.count c.args.topology (Some c.in-Some.ds) c.check-state.result c.check-state.ensures)
+    (depth_stencil_judged c.args.device.now (g.A.Adapter.answers c.args.adapter.now) c.args.count c.args.topology (Some c.in-Some.ds) c.check_state.result c.check_state.ensures)

@@ -11,7 +11,7 @@ returns-in-Some g c =
 
 pub loop-verdict-preserved : goal.loop-verdict-preserved
 loop-verdict-preserved g c =
-    scan_passes c.args.verdicts.now c.loop-verdict.verdict-index c.verdict-item.result c.loop-verdict.invariant c.loop-verdict-test.true c.verdict-item.is c.in-default.is
+    scan_passes c.args.verdicts.now c.loop-verdict.verdict-index c.verdict-item.result c.loop-verdict.invariant c.loop-verdict-test.true c.verdict-item.is c.in_default.is
 
 pub returns : goal.returns
 returns g c =

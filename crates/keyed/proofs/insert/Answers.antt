@@ -5,12 +5,12 @@ use Rattle.keyed.proofs.insert.Goals as goal
 
 pub returns-then-at-places : goal.returns-then-at-places
 returns-then-at-places g c =
-    let stored = stored_known g.K.Key.same g.met.K.Key.symmetric g.met.K.Key.transitive c.find-key-at.result c.args.places.now c.args.key c.args.value c.get-earlier.result c.find-key-at.ensures.at c.if-at-places.true c.get-earlier.ensures in
+    let stored = stored_known g.K.Key.same g.met.K.Key.symmetric g.met.K.Key.transitive c.find_key-at.result c.args.places.now c.args.key c.args.value c.get-earlier.result c.find_key-at.ensures.at c.if-at-places.true c.get-earlier.ensures in
     record { effect = stored; room = room_stored g.K.Key.same stored }
 
 pub returns-then-free-places : goal.returns-then-free-places
 returns-then-free-places g c =
-    let stored = stored_new g.K.Key.same g.met.K.Key.symmetric g.met.K.Key.transitive c.find-empty-free.result c.args.places.now c.args.key c.args.value c.get-earlier.result (omega arith) c.find-empty-free.ensures.at c.if-free-places.true c.get-earlier.ensures in
+    let stored = stored_new g.K.Key.same g.met.K.Key.symmetric g.met.K.Key.transitive c.find_empty-free.result c.args.places.now c.args.key c.args.value c.get-earlier.result (omega arith) c.find_empty-free.ensures.at c.if-free-places.true c.get-earlier.ensures in
     record { effect = stored; room = room_stored g.K.Key.same stored }
 
 pub returns : goal.returns

@@ -4,17 +4,17 @@ use Rattle.attachments.proofs.Costs.{bytes_judged, costs_refuse, costs_pass, tot
 use Rattle.attachments.proofs.Rounding.{rounding}
 use Rattle.attachments.proofs.bytes.validate_color_attachment_bytes_per_sample.Goals as goal
 
-pub returns-in-err-total : goal.returns-in-err-total
-returns-in-err-total c =
-    let p = err_from_is_err_and c.from-residual.result c.from-residual.ensures.1 in
+pub returns-in_err-total : goal.returns-in_err-total
+returns-in_err-total c =
+    let p = err_from_is_err_and c.from_residual.result c.from_residual.ensures.1 in
     record {
-      judged = bytes_judged c.args.device.now c.args.colors.now _ (rw (p.1, p.2) (costs_refuse c.args.device.now c.args.colors.now _ c.in-err-total.ensures));
+      judged = bytes_judged c.args.device.now c.args.colors.now _ (rw (p.1, p.2) (costs_refuse c.args.device.now c.args.colors.now _ c.in_err-total.ensures));
       rounding = rounding;
     }
 
 pub returns-then-total-limit : goal.returns-then-total-limit
 returns-then-total-limit c =
-    let e = c.in-ok-total.ensures in
+    let e = c.in_ok-total.ensures in
     let d = c.args.device.now in
     let colors = c.args.colors.now in
     record {
@@ -24,7 +24,7 @@ returns-then-total-limit c =
 
 pub returns : goal.returns
 returns c =
-    let e = c.in-ok-total.ensures in
+    let e = c.in_ok-total.ensures in
     let d = c.args.device.now in
     let colors = c.args.colors.now in
     record {

@@ -3,4 +3,4 @@ use Rattle.targets.proofs.blending.check_factor.Goals as goal
 
 pub returns : goal.returns
 returns c =
-    min_max_decides c.args.device.now c.args.target c.args.operation c.args.factor c.in-ok-check-second-source.ensures _ c.check-min-max.ensures
+    min_max_decides c.args.device.now c.args.target c.args.operation c.args.factor c.in_ok-check_second_source.ensures _ c.check_min_max.ensures

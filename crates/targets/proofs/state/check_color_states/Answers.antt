@@ -4,17 +4,17 @@ use Rattle.targets.proofs.Lawful.{targets_judged}
 use Rattle.targets.proofs.Loops.{targets_answer, target_refuses, target_passes}
 use Rattle.targets.proofs.state.check_color_states.Goals as goal
 
-pub returns-in-err-check-target : goal.returns-in-err-check-target
-returns-in-err-check-target g c =
-    let p = err_from_is_err_and c.from-residual.result c.from-residual.ensures.1 in
+pub returns-in_err-check_target : goal.returns-in_err-check_target
+returns-in_err-check_target g c =
+    let p = err_from_is_err_and c.from_residual.result c.from_residual.ensures.1 in
     let answers = g.A.Adapter.answers c.args.adapter.now in
     targets_judged c.args.device.now answers c.args.count c.args.targets.now _
     (rw (p.1, p.2)
-    (target_refuses c.args.device.now answers c.args.count c.args.targets.now c.loop-i.i c.loop-i-test.true _ c.loop-i.invariant _ c.in-err-check-target.ensures))
+    (target_refuses c.args.device.now answers c.args.count c.args.targets.now c.loop-i.i c.loop-i-test.true _ c.loop-i.invariant _ c.in_err-check_target.ensures))
 
 pub loop-i-preserved : goal.loop-i-preserved
 loop-i-preserved g c =
-    target_passes c.args.device.now (g.A.Adapter.answers c.args.adapter.now) c.args.count c.args.targets.now c.loop-i.i c.loop-i-test.true _ c.loop-i.invariant c.in-ok-check-target.ensures
+    target_passes c.args.device.now (g.A.Adapter.answers c.args.adapter.now) c.args.count c.args.targets.now c.loop-i.i c.loop-i-test.true _ c.loop-i.invariant c.in_ok-check_target.ensures
 
 pub returns : goal.returns
 returns g c =

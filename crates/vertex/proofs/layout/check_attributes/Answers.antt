@@ -4,14 +4,14 @@ use Rattle.faults.proofs.Order.{loop_ends}
 use Rattle.vertex.proofs.Loops.{attributes_answer, attributes_refused, attributes_passed}
 use Rattle.vertex.proofs.layout.check_attributes.Goals as goal
 
-pub returns-in-err-end : goal.returns-in-err-end
-returns-in-err-end c =
-    let p = err_from_is_err_and c.from-residual.result c.from-residual.ensures.1 in
-    rw (p.1, p.2) (attributes_refused c.args.device.now _ _ _ _ _ c.loop-a-test.true _ c.loop-a.invariant _ c.in-err-end.ensures)
+pub returns-in_err-end : goal.returns-in_err-end
+returns-in_err-end c =
+    let p = err_from_is_err_and c.from_residual.result c.from_residual.ensures.1 in
+    rw (p.1, p.2) (attributes_refused c.args.device.now _ _ _ _ _ c.loop-a-test.true _ c.loop-a.invariant _ c.in_err-end.ensures)
 
 pub loop-a-preserved : goal.loop-a-preserved
 loop-a-preserved c =
-    attributes_passed c.args.device.now _ _ _ _ _ c.loop-a-test.true _ c.loop-a.invariant _ _ c.in-ok-end.ensures (search rules)
+    attributes_passed c.args.device.now _ _ _ _ _ c.loop-a-test.true _ c.loop-a.invariant _ _ c.in_ok-end.ensures (search rules)
 
 pub returns : goal.returns
-returns c = loop_ends (attributes_answer c.args.device.now c.args.most c.loop-a.last-stride) c.args.part.now _ _ c.loop-a.invariant c.loop-a-test.false
+returns c = loop_ends (attributes_answer c.args.device.now c.args.most c.loop-a.last_stride) c.args.part.now _ _ c.loop-a.invariant c.loop-a-test.false

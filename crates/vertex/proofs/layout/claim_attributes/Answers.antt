@@ -8,27 +8,27 @@ use Rattle.vertex.specs.Order.{mark_all}
 use Rattle.vertex.proofs.Loops.{claims_answer, claims_refused, claims_passed, marks_more}
 use Rattle.vertex.proofs.layout.claim_attributes.Goals as goal
 
-pub claim-attribute-requires : goal.claim-attribute-requires
-claim-attribute-requires c =
+pub claim_attribute-requires : goal.claim_attribute-requires
+claim_attribute-requires c =
     record {
       roomy = c.loop-a.invariant.2;
       low = All-get_or (λ a. a.shader_location < 32) c.args.part.now c.loop-a.a-index _ c.loop-a-test.true c.requires.low;
     }
 
-pub returns-in-err-claim-attribute : goal.returns-in-err-claim-attribute
-returns-in-err-claim-attribute c =
-    let p = err_from_is_err_and c.from-residual.result c.from-residual.ensures.1 in
+pub returns-in_err-claim_attribute : goal.returns-in_err-claim_attribute
+returns-in_err-claim_attribute c =
+    let p = err_from_is_err_and c.from_residual.result c.from_residual.ensures.1 in
     record {
       verdict =
           rw (p.1, p.2)
           (claims_refused c.args.device.now (claimed c.loop-a.places) c.args.part.now c.loop-a.a-index _ c.loop-a-test.true _ c.loop-a.invariant.0 _
-          c.in-err-claim-attribute.ensures.verdict);
-      after = IfOk-from_err _ _ c.from-residual.ensures.0;
+          c.in_err-claim_attribute.ensures.verdict);
+      after = IfOk-from_err _ _ c.from_residual.ensures.0;
     }
 
 pub loop-a-preserved : goal.loop-a-preserved
 loop-a-preserved c =
-    let e = c.in-ok-claim-attribute.ensures in (
+    let e = c.in_ok-claim_attribute.ensures in (
       claims_passed c.args.device.now (claimed c.loop-a.places) c.args.part.now c.loop-a.a-index _ c.loop-a-test.true _ c.loop-a.invariant.0 _
           e.after.marks e.verdict,
       marks_more c.args.device.now (claimed c.loop-a.places) c.args.part.now c.loop-a.a-index _ c.loop-a-test.true _ c.loop-a.invariant.0 _ _

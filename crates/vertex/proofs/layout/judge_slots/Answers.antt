@@ -14,8 +14,8 @@ pub loop-i-init : goal.loop-i-init
 loop-i-init c =
     (ap (λ used. slots_answer c.args.device.now c.args.vertex.now.attributes.now 0 used c.args.vertex.now.buffers.now) (sym none_claimed), all_room, refl)
 
-pub judge-slot-requires : goal.judge-slot-requires
-judge-slot-requires c =
+pub judge_slot-requires : goal.judge_slot-requires
+judge_slot-requires c =
     record {
       roomy = c.loop-i.invariant.1;
       ranged =
@@ -23,19 +23,19 @@ judge-slot-requires c =
           (all_stay c.args.vertex.now.attributes.now 0 c.args.vertex.now.buffers.now c.requires.ranged);
     }
 
-pub returns-in-err-step : goal.returns-in-err-step
-returns-in-err-step c =
-    let p = err_from_is_err_and c.from-residual.result c.from-residual.ensures.1 in
+pub returns-in_err-step : goal.returns-in_err-step
+returns-in_err-step c =
+    let p = err_from_is_err_and c.from_residual.result c.from_residual.ensures.1 in
     rw (p.1, p.2)
     (same_refusal _ tt _ _
     (slots_refused c.args.device.now c.args.vertex.now.attributes.now (claimed c.loop-i.places) c.args.vertex.now.buffers.now c.loop-i.i None
-    c.loop-i-test.true _ c.loop-i.invariant.0 _ c.in-err-step.ensures.verdict))
+    c.loop-i-test.true _ c.loop-i.invariant.0 _ c.in_err-step.ensures.verdict))
 
 pub loop-i-preserved : goal.loop-i-preserved
 loop-i-preserved c =
     let attributes = c.args.vertex.now.attributes.now in
     let slots = c.args.vertex.now.buffers.now in
-    let e = c.in-ok-step.ensures in (
+    let e = c.in_ok-step.ensures in (
       slots_passed c.args.device.now attributes (claimed c.loop-i.places) slots c.loop-i.i None c.loop-i-test.true _ c.loop-i.invariant.0 _ _
           e.after.marks e.verdict,
       e.after.roomy,

@@ -6,8 +6,8 @@ use Rattle.vertex.proofs.layout.total_attributes.Goals as goal
 
 pub loop-slot-preserved : goal.loop-slot-preserved
 loop-slot-preserved c = (
-  omega (arith, sum_by_more count_of c.args.slots.now c.loop-slot.slot-index None c.loop-slot-test.true, c.attribute-count-total.ensures.value, c.loop-slot.invariant.0),
-  omega (arith, c.attribute-count-total.ensures.bound, c.loop-slot.invariant.1),
+  omega (arith, sum_by_more count_of c.args.slots.now c.loop-slot.slot-index None c.loop-slot-test.true, c.attribute_count-total.ensures.value, c.loop-slot.invariant.0),
+  omega (arith, c.attribute_count-total.ensures.bound, c.loop-slot.invariant.1),
 )
 
 pub returns : goal.returns
