@@ -110,7 +110,7 @@ fn target(pixel_byte_cost: u32, component_alignment: u32, uses: Uses) -> Row
 }
 
 fn depth_stencil(depth: bool, stencil: bool, required_features: Features) -> Row
-    ensures { result ≡ table.depth-stencil depth stencil required_features }
+    ensures { result ≡ table.depth_stencil_row depth stencil required_features }
 {
     Row {
         aspects: FormatAspects {

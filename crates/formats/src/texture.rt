@@ -1,6 +1,6 @@
 // The texture formats: what each holds, what a color target of it costs, and what can be done with it, from one table.
 ghost use Rattle.std.specs.Prelude.{◌≡◌, Decides};
-ghost use Rattle.formats.specs.Texture.{aspects_of, cost_of, required_of, guaranteed, place_of, ColorApart, Multiple, Small, OnlyFour};
+ghost use Rattle.formats.specs.Texture.{aspects_of, cost_of, required_of, guaranteed, place_of, same_format, ColorApart, Multiple, Small, OnlyFour};
 ghost use Rattle.std.specs.Cmp.Rules.{comparing};
 ghost use Rattle.std.proofs.Common.{rules};
 ghost use Rattle.std.specs.Cmp as Keys;
@@ -162,11 +162,14 @@ impl TextureFormat {
 
 // A derived equality would promise nothing, there being so many cases.
 impl PartialEq for TextureFormat {
-    ghost equals = { λ a b r. Decides r (a ≡ b) };
+    ghost eq = { λ a b. same_format a b };
 
     ghost laws = { Keys.partial_equiv_from_equiv (Prim.search (comparing, rules)) };
 
-    fn eq(&self, other: &TextureFormat) -> bool {
+    fn eq(&self, other: &TextureFormat) -> bool
+        ensures value { result ≡ same_format self.now other.now }
+        ensures exactly { Decides result (self.now ≡ other.now) }
+    {
         self.place() == other.place()
     }
 }
