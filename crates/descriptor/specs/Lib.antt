@@ -1,4 +1,5 @@
 pub mod Blend
+pub mod BlendLaws
 pub mod DepthStencil
 pub mod Primitive
 pub mod Vertex

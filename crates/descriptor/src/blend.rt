@@ -1,9 +1,8 @@
 // A color target of a style: its format, which channels are written, and how a color is blended with the one that is there.
 ghost use Rattle.std.specs.Prelude.{◌≡◌, Decides};
 ghost use Rattle.descriptor.specs.Blend.{factor_place, operation_place, same_factor, same_operation, same_component, same_state, same_blend, second_source, is_min_max, is_one, is_constant, uses_constant, reads_second, unknown_bits, writes_like, Alike};
-ghost use Rattle.std.specs.Cmp.Rules.{comparing};
-ghost use Rattle.std.proofs.Common.{rules};
-ghost use Rattle.std.specs.Cmp as Keys;
+ghost use Rattle.std.specs.Cmp.{partial_equiv_from_equiv};
+ghost use Rattle.descriptor.specs.BlendLaws.{same_factor_equiv, same_operation_equiv, same_component_equiv, same_state_equiv};
 
 use formats::texture::TextureFormat;
 
@@ -72,7 +71,7 @@ impl BlendFactor {
 impl PartialEq for BlendFactor {
     ghost eq = { λ a b. same_factor a b };
 
-    ghost laws = { Keys.partial_equiv_from_equiv (Prim.search (comparing, rules)) };
+    ghost laws = { partial_equiv_from_equiv same_factor_equiv };
 
     fn eq(&self, other: &BlendFactor) -> bool {
         self.place() == other.place()
@@ -80,7 +79,7 @@ impl PartialEq for BlendFactor {
 }
 
 impl Eq for BlendFactor {
-    ghost laws = { Prim.search (comparing, rules) };
+    ghost laws = { same_factor_equiv };
 }
 
 #[derive(Clone, Copy, Debug)]
@@ -112,7 +111,7 @@ impl BlendOperation {
 impl PartialEq for BlendOperation {
     ghost eq = { λ a b. same_operation a b };
 
-    ghost laws = { Keys.partial_equiv_from_equiv (Prim.search (comparing, rules)) };
+    ghost laws = { partial_equiv_from_equiv same_operation_equiv };
 
     fn eq(&self, other: &BlendOperation) -> bool {
         self.place() == other.place()
@@ -120,7 +119,7 @@ impl PartialEq for BlendOperation {
 }
 
 impl Eq for BlendOperation {
-    ghost laws = { Prim.search (comparing, rules) };
+    ghost laws = { same_operation_equiv };
 }
 
 #[derive(Clone, Copy, Debug)]
@@ -149,7 +148,7 @@ impl BlendComponent {
 impl PartialEq for BlendComponent {
     ghost eq = { λ a b. same_component a b };
 
-    ghost laws = { Keys.partial_equiv_from_equiv (Prim.search (comparing, rules)) };
+    ghost laws = { partial_equiv_from_equiv same_component_equiv };
 
     fn eq(&self, other: &BlendComponent) -> bool {
         self.src_factor == other.src_factor
@@ -159,7 +158,7 @@ impl PartialEq for BlendComponent {
 }
 
 impl Eq for BlendComponent {
-    ghost laws = { Prim.search (comparing, rules) };
+    ghost laws = { same_component_equiv };
 }
 
 #[derive(Clone, Copy, Debug)]
@@ -171,7 +170,7 @@ pub struct BlendState {
 impl PartialEq for BlendState {
     ghost eq = { λ a b. same_state a b };
 
-    ghost laws = { Keys.partial_equiv_from_equiv (Prim.search (comparing, rules)) };
+    ghost laws = { partial_equiv_from_equiv same_state_equiv };
 
     fn eq(&self, other: &BlendState) -> bool {
         self.color == other.color && self.alpha == other.alpha
@@ -179,7 +178,7 @@ impl PartialEq for BlendState {
 }
 
 impl Eq for BlendState {
-    ghost laws = { Prim.search (comparing, rules) };
+    ghost laws = { same_state_equiv };
 }
 
 // The channels that a target writes, a bit each.
