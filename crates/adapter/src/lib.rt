@@ -1,4 +1,6 @@
 // What can be done with a texture format on a machine: adapters, by what they answer of each format, and the answer that a device uses.
+#![tactic(auto)]
+
 ghost use Rattle.std.specs.Prelude.{◌≡◌};
 ghost use Rattle.formats.specs.declared.texture.TextureFormat.{TextureFormat};
 ghost use Rattle.formats.specs.declared.format_features.TextureFormatFeatures.{TextureFormatFeatures};

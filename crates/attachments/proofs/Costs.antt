@@ -1,11 +1,10 @@
 -- The loop over the attachments, and what the verdicts on their bytes mean.
-use Rattle.std.proofs.Common.{◌≡◌, ℕ, ◌+◌, ◌<◌, ◌≤◌, true, false, ltb, List, [], ◌∷◌, ◌++◌, is_some, Some, None, Ok, Err, Option, Result, sym, refl, ap, ◌∙◌, arith}
+use Rattle.std.proofs.Common.{◌≡◌, ℕ, ◌+◌, ◌<◌, ◌≤◌, true, false, ltb, List, [], ◌∷◌, Some, None, Ok, Err, Option, Result, sym, refl, ap, ◌∙◌, arith}
 use Rattle.std.specs.List.{ContainsAt as Has, AllByRecursion as All}
 use Rattle.std.proofs.ByRecursion.{all-has, all_has_itself, All-weaker}
 use Rattle.std.proofs.lemmas.Bool.{not-false, not_from_true, ltb-false, lt-ltb, le-ltb}
 use Rattle.faults.specs.Faults.{or_else, first_of, answer, Judged}
 use Rattle.faults.proofs.Order.{at_first, at_next, or_none, both_none, none_both, not_if, if_not, judged}
-use Rattle.formats.specs.Texture.{cost_of}
 use Rattle.formats.specs.declared.texture.TextureFormat.{TextureFormat}
 use Rattle.device.specs.declared.Device.{Device}
 use Rattle.attachments.specs.Bytes.{unpriced, cost_verdict, cost_verdicts, bytes_from, bytes_of, total_verdict, bytes_verdicts, BytesLawful}

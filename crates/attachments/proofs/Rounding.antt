@@ -1,5 +1,5 @@
 -- What is rounded up is the least multiple that is not below the number.
-use Rattle.std.proofs.Common.{◌≡◌, ℕ, ◌+◌, ◌-◌, ◌*◌, ◌/◌, ◌%◌, ◌<◌, ◌≤◌, ap, ◌∙◌, inl, inr, mod-lt, mod-eq_of_lt, div-add-mod', arith}
+use Rattle.std.proofs.Common.{◌≡◌, ℕ, ◌+◌, ◌-◌, ◌*◌, ◌/◌, ◌%◌, ◌<◌, ap, ◌∙◌, inl, inr, mod-lt, mod-eq_of_lt, div-add-mod', arith}
 use native.Mathlib.Nat.{sub-zero, mod_self, mul-mod_left}
 use Rattle.std.proofs.lemmas.Bool.{cases_eq}
 use Rattle.attachments.specs.Bytes.{round_up, Rounding}

@@ -1,4 +1,6 @@
 // What a pipeline or a pass draws on: the formats of its attachments, and what the color ones cost.
+#![tactic(auto)]
+
 pub mod bytes;
 pub mod error;
 

@@ -1,6 +1,5 @@
 -- A float differs from 0.0 exactly where it is a NaN, an infinity or has a significand other than 0.
-use Rattle.std.proofs.Common.{◌≡◌, ℕ, zero, suc, ◌*◌, ◌^◌, ◌<◌, Bool, true, false, not, ◌&&◌, ◌||◌, eqb, pos, negsuc, refl, mul-pos, zero-mul, mul-one, arith, pow_pos}
-use mathlib.Core.Bool.{beq}
+use Rattle.std.proofs.Common.{◌≡◌, ℕ, zero, suc, ◌*◌, ◌^◌, ◌<◌, Bool, true, false, not, eqb, pos, negsuc, refl, mul-pos, zero-mul, mul-one, arith, pow_pos}
 use lib.Ieee.{Float, nan, inf, fin, ne, of_bits, binary32, level}
 use Rattle.std.proofs.lemmas.Bool.Decides.{nat_tests}
 use Rattle.descriptor.specs.DepthStencil.{nonzero}

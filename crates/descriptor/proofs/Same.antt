@@ -1,5 +1,5 @@
 -- Two targets that write alike, by the places of their factors and operations, are those with one write mask and one blend state.
-use Rattle.std.proofs.Common.{◌≡◌, ℕ, Bool, true, false, ◌&&◌, eqb, List, [], ◌∷◌, get_or, Some, None, Decides, Option, sym, refl, ap, ◌∙◌}
+use Rattle.std.proofs.Common.{◌≡◌, ℕ, Bool, eqb, List, [], ◌∷◌, get_or, Some, None, Decides, Option, sym, refl, ap, ◌∙◌}
 use Rattle.std.proofs.lemmas.Bool.Decides.{Decides-and, Decides-at, Decides-eqb, Decides-like}
 use Rattle.descriptor.specs.Blend.{factor_place, operation_place, same_factor, same_operation, same_component, same_state, same_blend, writes_like, Alike}
 use Rattle.descriptor.specs.declared.blend.BlendFactor.{BlendFactor}

@@ -1,8 +1,8 @@
 -- The stencil is not read-only exactly if the write mask is not 0 and some operation is not Keep on a face that is not culled.
-use Rattle.std.proofs.Common.{◌≡◌, ℕ, Bool, true, false, not, ◌&&◌, ◌||◌, eqb, ◌≢◌, ◌⊎◌, List, [], ◌∷◌, Some, None, Decides, Option, sym, refl, ap, ◌∙◌, inl, inr, arith}
-use Rattle.std.specs.List.{ContainsAt as Has, AllByRecursion as All}
+use Rattle.std.proofs.Common.{◌≡◌, Bool, true, false, not, ◌&&◌, ◌||◌, eqb, ◌≢◌, Some, None, Decides, Option, sym, refl, ap, ◌∙◌, inl, inr, arith}
+use Rattle.std.specs.List.{ContainsAt as Has}
 use Rattle.std.proofs.ByRecursion.{all-has, has_get_or}
-use Rattle.std.proofs.lemmas.Bool.{cases_Bool, false≢true, and_parts, and_cases, and_from, and_left, and_right, or_parts, or_from, eqb-false, ne_eqb, not-true, not_from_false}
+use Rattle.std.proofs.lemmas.Bool.{cases_Bool, false≢true, and_parts, and_cases, and_left, and_right, or_parts, or_from, eqb-false, ne_eqb, not-true, not_from_false}
 use Rattle.descriptor.specs.DepthStencil.{is_keep, writes_nothing, culled, stencil_read_only, face_of, operations, WritesStencil}
 use Rattle.descriptor.specs.declared.primitive.Face.{Face}
 use Rattle.descriptor.specs.declared.primitive.Face.TheVariants.{Front, Back}

@@ -1,5 +1,5 @@
 -- The depth-stencil state of a style: when depth and stencil are enabled, what is written, what is biased.
-use Rattle.std.specs.Prelude.{◌≡◌, ℕ, Bool, true, false, not, ◌&&◌, ◌||◌, ◌≢◌, List, [], ◌∷◌, ℤ, pos, negsuc, Some, None, Option, ◌==◌, Float}
+use Rattle.std.specs.Prelude.{Bool, true, false, not, ◌&&◌, ◌||◌, ◌≢◌, List, [], ◌∷◌, ℤ, pos, negsuc, Some, None, Option, ◌==◌, Float}
 use Rattle.std.specs.Float.{nan, inf, fin}
 use Rattle.std.specs.List.{ContainsAt as Has}
 use Rattle.descriptor.specs.declared.primitive.Face.{Face}

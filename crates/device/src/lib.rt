@@ -1,4 +1,6 @@
 // What a device is: its limits, its features and its downlevel flags; and the refusal of what needs one that it lacks.
+#![tactic(auto)]
+
 pub mod ceilings;
 pub mod limits;
 

@@ -1,5 +1,7 @@
 // What every layer's checks share: an ordered list of verdicts, and its first fault.
 // The vocabulary is in specs/, and the laws of loops and calls that cite it in proofs/.
+#![tactic(auto)]
+
 ghost use Rattle.std.specs.Prelude.{◌≡◌};
 ghost use Rattle.faults.specs.Faults.{first_of, FirstIn};
 

@@ -1,5 +1,5 @@
 -- Two texture formats are the same exactly if their places are.
-use Rattle.std.proofs.Common.{◌≡◌, ℕ, Bool, true, false, eqb, List, [], ◌∷◌, get_or, Decides, sym, refl, ap, ◌∙◌, inl, inr}
+use Rattle.std.proofs.Common.{◌≡◌, Bool, true, false, List, [], ◌∷◌, get_or, Decides, sym, refl, ap, ◌∙◌, inl, inr}
 use Rattle.std.proofs.lemmas.Bool.{eqb-true, eq-eqb, cases_Bool, false≢true}
 use Rattle.formats.specs.Texture.{place_of, same_format}
 use Rattle.formats.specs.declared.texture.TextureFormat.{TextureFormat}

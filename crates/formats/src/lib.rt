@@ -1,4 +1,6 @@
 // The formats of vertices and textures, and the sets of features and downlevel flags by which a device says what it can do.
+#![tactic(auto)]
+
 pub mod features;
 pub mod format_features;
 mod rows;

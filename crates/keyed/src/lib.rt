@@ -1,4 +1,6 @@
 // The map: its places are a slice that the caller lends, and it is written once, for every lawful key.
+#![tactic(auto)]
+
 ghost use Rattle.std.specs.Prelude.{◌≡◌, ◌≤◌, Bool, true, length, ◌==◌};
 ghost use Rattle.keyed.specs.Lookup.{first, hit, is_empty, value_of, lookup, Inserts, NeverRefused, same_subresource};
 ghost use Rattle.std.proofs.Common.{rules};
