@@ -1,5 +1,5 @@
 -- The depth-stencil rules, verdict by verdict, in the order in which they are judged.
-use Rattle.std.specs.Prelude.{ℕ, Bool, cond, not, ◌&&◌, ◌||◌, List, [], ◌∷◌, ◌++◌, is_some, Some, None, Option, nat_lt}
+use Rattle.std.specs.Prelude.{ℕ, Bool, cond, not, ◌&&◌, ◌||◌, List, [], ◌∷◌, is_some, Some, None, Option, nat_lt}
 use Rattle.faults.specs.Faults.{fault_if, within}
 use Rattle.formats.specs.Features.{depth_bias_clamp}
 use Rattle.formats.specs.Samples.{supports, sum_of_counts}

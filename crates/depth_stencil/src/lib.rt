@@ -1,4 +1,6 @@
 // The judging of a depth-stencil state, in the reference's order.
+#![tactic(auto)]
+
 ghost use Rattle.std.specs.Prelude.{◌≡◌, not};
 ghost use Rattle.faults.specs.Faults.{answer, fault_if, first_of};
 ghost use Rattle.errors.specs.declared.depth_stencil.DepthStencilStateError.TheVariants.{FormatNotRenderable};

@@ -1,5 +1,7 @@
 // The preview: judges a catalogue of vertex layouts for a panel, and prints of each what was judged and the verdict;
 // then it prints which texture formats the panel can draw on.
+#![tactic(auto)]
+
 mod catalogue;
 mod cells;
 

@@ -5,6 +5,8 @@
 // the number of attributes, and of each its format's place in the table, offset, shader_location.
 //
 // An answer has 0 and then, of each slot, 0 where it is empty, else 1, stride, last_stride, mode; or the fault's number and its values.
+#![tactic(auto)]
+
 mod table;
 
 use anyhow::anyhow;

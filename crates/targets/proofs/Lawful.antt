@@ -1,7 +1,7 @@
 -- The verdicts on the targets are all none exactly if every rule on them holds.
-use Rattle.std.proofs.Common.{◌≡◌, ℕ, zero, suc, ◌+◌, ◌<◌, ◌≤◌, Bool, true, false, cond, not, ◌&&◌, eqb, ltb, List, [], ◌∷◌, ◌++◌, length, get_or, is_some, Some, None, Option, Result, sym, refl, ap, ◌∙◌, inl, inr, arith}
-use Rattle.std.proofs.lemmas.Bool.{cases_Bool, and_cases, and_from, and_left, and_right, not-true, not-false, not_from_true, ltb-true, ltb-false, le-ltb, lt-ltb, eqb-true, eq-eqb}
-use Rattle.faults.specs.Faults.{or_else, fault_if, first_of, within, answer, Judged}
+use Rattle.std.proofs.Common.{◌≡◌, ℕ, zero, suc, ◌+◌, ◌<◌, Bool, true, false, cond, not, ◌&&◌, eqb, ltb, List, [], ◌∷◌, ◌++◌, get_or, Some, None, Option, sym, refl, ap, ◌∙◌, arith}
+use Rattle.std.proofs.lemmas.Bool.{not-false, not_from_true, ltb-true, ltb-false, le-ltb, lt-ltb, eqb-true, eq-eqb}
+use Rattle.faults.specs.Faults.{fault_if, first_of, within, Judged}
 use Rattle.faults.proofs.Order.{both_none, none_both, all_none, none_all, not_if, if_not, judged}
 use Rattle.faults.proofs.Sequence.{within_none, none_within}
 use Rattle.device.specs.Lacking.{features_fault}

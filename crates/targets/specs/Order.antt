@@ -17,7 +17,6 @@ use Rattle.descriptor.specs.declared.blend.BlendFactor.{BlendFactor}
 use Rattle.descriptor.specs.declared.blend.BlendOperation.{BlendOperation}
 use Rattle.descriptor.specs.declared.blend.BlendState.{BlendState}
 use Rattle.descriptor.specs.declared.blend.ColorTargetState.{ColorTargetState}
-use Rattle.errors.specs.declared.color.ColorStateError.{ColorStateError}
 use Rattle.errors.specs.declared.color.ColorStateError.TheVariants.{FormatNotRenderable, FormatNotBlendable, FormatNotColor, InvalidSampleCount, InvalidWriteMask, BlendFactorOnUnsupportedTarget, InvalidMinMaxBlendFactor}
 use Rattle.errors.specs.declared.create.CreateRenderPipelineError.{CreateRenderPipelineError}
 use Rattle.errors.specs.declared.create.CreateRenderPipelineError.TheVariants.{ColorState, MissingFeatures, MissingDownlevelFlags, DualSourceBlendingWithMultipleColorTargets}

@@ -1,5 +1,5 @@
 -- What an accepted vertex state keeps, in words.
-use Rattle.std.proofs.Common.{◌≡◌, ℕ, zero, suc, ◌+◌, ◌-◌, ◌<◌, ◌≤◌, max, true, eqb, ◌⊎◌, List, [], ◌∷◌, ◌++◌, map, length, get_or, replicate, is_ok, Some, None, Ok, Err, Option, Result, sym, refl, ap, ◌∙◌, subst, inl, inr, arith}
+use Rattle.std.proofs.Common.{◌≡◌, ℕ, zero, suc, ◌-◌, ◌≤◌, max, eqb, ◌⊎◌, List, [], ◌∷◌, map, length, get_or, replicate, Some, None, Option, Result, sym, refl, ◌∙◌, inl, inr, arith}
 use Rattle.std.specs.List.{ContainsAt as Has, AllByRecursion as All}
 use Rattle.std.proofs.ByRecursion.{all-has, has_get_or}
 use Rattle.std.proofs.lemmas.List.{get_or_past, get_or-map, get_or_append_left, get_or-append_right, length-map}
@@ -13,7 +13,7 @@ use Rattle.descriptor.specs.declared.vertex.VertexBufferLayout.{VertexBufferLayo
 use Rattle.vertex.specs.declared.error.VertexStateError.{VertexStateError}
 use Rattle.vertex.specs.declared.step.VertexStep.{VertexStep}
 use Rattle.vertex.specs.Order.{greatest_end, last_stride_of, reach, vertex_verdicts, step_of, steps_of}
-use Rattle.vertex.specs.Rules.{AttributeLawful, SlotLawful, Lawful, Greatest, Keeps, KeptOf, Accepts}
+use Rattle.vertex.specs.Rules.{SlotLawful, Lawful, Greatest, KeptOf, Accepts}
 use Rattle.vertex.proofs.Lawful.{lawful, passes_lawful}
 
 -- the greatest end: at least where it began, at least each end, and one of these

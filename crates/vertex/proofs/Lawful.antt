@@ -1,20 +1,20 @@
 -- The verdicts in order are all none exactly if every rule holds.
-use Rattle.std.proofs.Common.{◌≡◌, ℕ, ◌+◌, ◌%◌, ◌<◌, ◌≤◌, min, Bool, true, false, cond, not, ◌||◌, eqb, ltb, leb, ◌≢◌, List, [], ◌∷◌, ◌++◌, length, Some, None, sum_by, Option, Result, sym, refl, ap, ◌∙◌, inl, inr, arith}
-use Rattle.std.specs.List.{ContainsAt as Has, flat_map, AllByRecursion as All}
-use Rattle.std.proofs.ByRecursion.{all-has, all_has_itself, All-weaker, All-append}
-use Rattle.std.proofs.lemmas.Bool.{cases_Bool, not-true, not-false, not_from_true, ltb-false, leb-false, le-ltb, lt-leb, eqb-true, eq-eqb, eqb-false, ne_eqb, or_parts, or_from}
+use Rattle.std.proofs.Common.{◌≡◌, ℕ, ◌+◌, ◌%◌, ◌≤◌, Bool, true, false, not, eqb, ◌≢◌, List, [], ◌∷◌, ◌++◌, length, Some, None, Option, Result, refl, inl, inr}
+use Rattle.std.specs.List.{ContainsAt as Has, AllByRecursion as All}
+use Rattle.std.proofs.ByRecursion.{all-has, all_has_itself, All-weaker}
+use Rattle.std.proofs.lemmas.Bool.{cases_Bool, not-false, not_from_true, ltb-false, leb-false, le-ltb, lt-leb, eqb-true, eq-eqb, eqb-false, ne_eqb, or_parts, or_from}
 use Rattle.faults.specs.Faults.{first_of, within, Judged}
 use Rattle.faults.proofs.Order.{all_none, none_all, both_none, none_both, each_none, none_each, not_if, if_not, judged}
 use Rattle.formats.specs.Features.{includes, vertex_attribute_64bit}
 use Rattle.formats.specs.Vertex.{is64bit}
 use Rattle.device.specs.Lacking.{features_fault}
 use Rattle.device.specs.declared.Device.{Device}
-use Rattle.descriptor.specs.Vertex.{attribute_end, part_end, part_of, attributes_of}
+use Rattle.descriptor.specs.Vertex.{part_of, attributes_of}
 use Rattle.descriptor.specs.declared.vertex.VertexAttribute.{VertexAttribute}
 use Rattle.descriptor.specs.declared.vertex.VertexBufferLayout.{VertexBufferLayout}
 use Rattle.vertex.specs.declared.error.VertexStateError.{VertexStateError}
 use Rattle.vertex.specs.declared.error.VertexStateError.TheVariants.{MissingFeatures}
-use Rattle.vertex.specs.Order.{end_verdict, offset_verdict, location_verdict, attribute_verdicts, attributes_verdicts, far_verdict, format_verdict, clash_verdict, claim_verdicts, claims_verdicts, mark, mark_all, reach, stride_verdicts, part_verdicts, slot_verdicts, mark_slot, slots_verdicts, range_verdict, ranges_verdicts, buffers_verdict, total_verdict, layout_verdicts, vertex_verdicts, unused}
+use Rattle.vertex.specs.Order.{attribute_verdicts, attributes_verdicts, far_verdict, format_verdict, claim_verdicts, claims_verdicts, mark, mark_all, reach, stride_verdicts, part_verdicts, slots_verdicts, ranges_verdicts, buffers_verdict, total_verdict, layout_verdicts, vertex_verdicts, unused}
 use Rattle.vertex.specs.Claims.{InList}
 use Rattle.vertex.proofs.Loops.{ranges_answer}
 use Rattle.vertex.proofs.Slots.{all_stay, none_stay}

@@ -1,8 +1,8 @@
 -- A new location below 32 always finds room among 32 places: each place that is taken has such a location of its own.
-use Rattle.std.proofs.Common.{◌≡◌, ℕ, zero, suc, ◌+◌, ◌<◌, ◌≤◌, Bool, true, false, cond, ◌||◌, eqb, length, replicate, is_some, Some, None, Ok, Option, Result, sym, refl, ap, ◌∙◌, inl, inr, not-suc-le-zero, arith}
+use Rattle.std.proofs.Common.{◌≡◌, ℕ, zero, suc, ◌+◌, ◌<◌, ◌≤◌, Bool, true, false, cond, ◌||◌, eqb, replicate, is_some, Some, None, Ok, Option, Result, sym, refl, ap, ◌∙◌, inl, inr, not-suc-le-zero, arith}
 use mathlib.Core.Path.{fun_ext}
 use Rattle.faults.specs.Faults.{fault_if, answer}
-use Rattle.std.proofs.lemmas.Bool.{cases_eq, cases_Bool, eq-eqb, ne_eqb}
+use Rattle.std.proofs.lemmas.Bool.{cases_eq, eq-eqb, ne_eqb}
 use Rattle.formats.specs.declared.vertex.VertexFormat.{VertexFormat}
 use Rattle.keyed.specs.Lookup.{lookup, taken, places_more, Stored, Refused}
 use Rattle.keyed.proofs.Room.{empty_taken, empty_lookup}

@@ -1,6 +1,6 @@
 -- The whole of a vertex state: its four groups of verdicts, one call after the other.
-use Rattle.std.proofs.Common.{◌≡◌, ℕ, List, [], ◌∷◌, ◌++◌, length, None, Ok, Err, Option, Result, sym, ap, ◌∙◌}
-use Rattle.faults.specs.Faults.{or_else, first_of, answer}
+use Rattle.std.proofs.Common.{◌≡◌, List, [], ◌∷◌, ◌++◌, length, Ok, Err, Option, Result, sym, ap, ◌∙◌}
+use Rattle.faults.specs.Faults.{first_of, answer}
 use Rattle.faults.proofs.Order.{at_first, at_next, or_first, or_next, or_none, same_acceptance, same_refusal, value_from_ok}
 use Rattle.device.specs.declared.Device.{Device}
 use Rattle.descriptor.specs.declared.vertex.VertexAttribute.{VertexAttribute}

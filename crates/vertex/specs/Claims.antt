@@ -1,5 +1,5 @@
 -- The map that the second round keeps: the locations that attributes have claimed, over 32 places.
-use Rattle.std.specs.Prelude.{◌≡◌, ℕ, zero, suc, ◌+◌, ◌<◌, ◌≤◌, Bool, cond, List, length, is_some, Some, None, Option, nat_eq}
+use Rattle.std.specs.Prelude.{◌≡◌, ℕ, zero, suc, ◌+◌, ◌≤◌, Bool, cond, List, length, is_some, Some, None, Option, nat_eq}
 use Rattle.formats.specs.declared.vertex.VertexFormat.{VertexFormat}
 use Rattle.keyed.specs.Lookup.{lookup, taken}
 use Rattle.keyed.specs.declared.Entry.{Entry}

@@ -1,7 +1,7 @@
 -- The vertex rules, verdict by verdict, in the order in which they are judged.
-use Rattle.std.specs.Prelude.{ℕ, ◌+◌, ◌-◌, ◌%◌, ◌^◌, min, max, Bool, true, false, cond, not, ◌||◌, List, [], ◌∷◌, ◌++◌, map, length, replicate, Some, None, sum_by, Option, ◌==◌, nat_le, nat_lt}
+use Rattle.std.specs.Prelude.{ℕ, ◌+◌, ◌-◌, ◌%◌, min, max, Bool, false, cond, not, ◌||◌, List, [], ◌∷◌, ◌++◌, map, length, replicate, Some, None, sum_by, Option, ◌==◌, nat_le, nat_lt}
 use Rattle.std.specs.List.{flat_map}
-use Rattle.faults.specs.Faults.{fault_if, first_of, within}
+use Rattle.faults.specs.Faults.{fault_if, within}
 use Rattle.formats.specs.Features.{vertex_attribute_64bit}
 use Rattle.formats.specs.Vertex.{size_of, is64bit}
 use Rattle.device.specs.Lacking.{features_fault}

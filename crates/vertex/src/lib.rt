@@ -1,4 +1,6 @@
 // The vertex part of create: slots and attributes judged in the reference's order, and the first fault answered.
+#![tactic(auto)]
+
 pub mod error;
 pub mod layout;
 pub mod step;

@@ -1,4 +1,4 @@
-use Rattle.std.proofs.Common.{◌≡◌, length, None, Result, refl}
+use Rattle.std.proofs.Common.{length, None, refl}
 use Rattle.std.proofs.lemmas.Result.{err_from_is_err_and}
 use Rattle.faults.proofs.Order.{loop_refused, loop_passed, loop_ends}
 use Rattle.vertex.proofs.Lawful.{ranges_answer_lem}
