@@ -1,6 +1,6 @@
 -- The stencil is not read-only exactly if the write mask is not 0 and some operation is not Keep on a face that is not culled.
 use Rattle.std.proofs.Common.{◌≡◌, Bool, true, false, not, ◌&&◌, ◌||◌, eqb, ◌≢◌, Some, None, Decides, Option, sym, refl, ap, ◌∙◌, inl, inr, arith}
-use Rattle.std.specs.List.{ContainsAt as Has}
+use Rattle.std.specs.List.{ContainsAt}
 use Rattle.std.proofs.ByRecursion.{all-has, has_get_or}
 use Rattle.std.proofs.lemmas.Bool.{cases_Bool, false≢true, and_parts, and_cases, and_left, and_right, or_parts, or_from, eqb-false, ne_eqb, not-true, not_from_false}
 use Rattle.descriptor.specs.DepthStencil.{is_keep, writes_nothing, culled, stencil_read_only, face_of, operations, WritesStencil}
@@ -26,7 +26,7 @@ not_keep o h e = false≢true (sym h ∙ ap is_keep e)
 
 -- some operation of a face is not Keep
 abbrev Writes : StencilFaceState → Type 0
-Writes f = (o : StencilOperation) × Has (operations f) o × (o ≢ Keep)
+Writes f = (o : StencilOperation) × ContainsAt (operations f) o × (o ≢ Keep)
 
 writes : (f : StencilFaceState) → writes_nothing f ≡ false → Writes f
 writes f h =

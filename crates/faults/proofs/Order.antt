@@ -1,6 +1,6 @@
 -- The laws of ordered verdicts: what `first_of` means, and how it goes through calls with `?` and through loops.
 use Rattle.std.proofs.Common.{◌≡◌, ℕ, zero, suc, ◌+◌, ◌<◌, ◌≤◌, Bool, true, false, List, [], ◌∷◌, ◌++◌, length, get_or, drop, Some, None, Ok, Err, Option, Result, sym, refl, ap, ◌∙◌, subst, not-suc-le-zero, arith}
-use Rattle.std.specs.List.{flat_map, AllByRecursion as All}
+use Rattle.std.specs.List.{flat_map, AllByRecursion}
 use Rattle.std.proofs.lemmas.List.{at_drop_more, at_drop_all}
 use Rattle.std.proofs.lemmas.Bool.{false≢true}
 use Rattle.faults.specs.Faults.{fault_if, or_else, first_of, answer, FirstIn, Judged}
@@ -102,12 +102,12 @@ first_in (Some e ∷ os) = (0, omega arith, refl, λ j h. absurd (not-suc-le-zer
 first_in (None ∷ os) = later os (first_of os) (first_in os)
 
 -- there is no fault exactly where every verdict is none
-pub all_none : {E : Type 0} (os : List (Option E)) → first_of os ≡ None → All (λ o. o ≡ None) os
+pub all_none : {E : Type 0} (os : List (Option E)) → first_of os ≡ None → AllByRecursion (λ o. o ≡ None) os
 all_none [] h = tt
 all_none (Some e ∷ os) h = let z : ◌≡◌ {A = ℕ} 0 1 = cc in absurd (omega arith)
 all_none (None ∷ os) h = (refl, all_none os h)
 
-pub none_all : {E : Type 0} (os : List (Option E)) → All (λ o. o ≡ None) os → first_of os ≡ None
+pub none_all : {E : Type 0} (os : List (Option E)) → AllByRecursion (λ o. o ≡ None) os → first_of os ≡ None
 none_all [] h = refl
 none_all (o ∷ os) h = ap (λ v. or_else v (first_of os)) h.0 ∙ none_all os h.1
 
@@ -128,11 +128,11 @@ both_none os ps h =
 pub none_both : {E : Type 0} (os ps : List (Option E)) → first_of os ≡ None → first_of ps ≡ None → first_of (os ++ ps) ≡ None
 none_both os ps h k = first_of-append os ps ∙ ap (λ o. or_else o (first_of ps)) h ∙ k
 
-pub each_none : {X E : Type 0} (f : X → List (Option E)) (xs : List X) → first_of (flat_map f xs) ≡ None → All (λ x. first_of (f x) ≡ None) xs
+pub each_none : {X E : Type 0} (f : X → List (Option E)) (xs : List X) → first_of (flat_map f xs) ≡ None → AllByRecursion (λ x. first_of (f x) ≡ None) xs
 each_none f [] h = tt
 each_none f (x ∷ xs) h = let k = both_none (f x) (flat_map f xs) h in (k.0, each_none f xs k.1)
 
-pub none_each : {X E : Type 0} (f : X → List (Option E)) (xs : List X) → All (λ x. first_of (f x) ≡ None) xs → first_of (flat_map f xs) ≡ None
+pub none_each : {X E : Type 0} (f : X → List (Option E)) (xs : List X) → AllByRecursion (λ x. first_of (f x) ≡ None) xs → first_of (flat_map f xs) ≡ None
 none_each f [] h = refl
 none_each f (x ∷ xs) h = none_both (f x) (flat_map f xs) h.0 (none_each f xs h.1)
 

@@ -1,7 +1,7 @@
 -- What the targets ask of each other: the loops, and what their verdicts mean.
 use Rattle.std.proofs.Common.{◌≡◌, ℕ, zero, suc, ◌+◌, ◌<◌, ◌≤◌, Bool, true, false, cond, ◌&&◌, ◌||◌, ltb, List, [], ◌∷◌, length, get_or, drop, Some, None, Option, sym, refl, ap, ◌∙◌, inl, inr, not-suc-le-zero, arith}
 use Rattle.std.specs.Option.{option_or}
-use Rattle.std.specs.List.{ContainsAt as Has, AllByRecursion as All}
+use Rattle.std.specs.List.{ContainsAt, AllByRecursion}
 use Rattle.std.proofs.ByRecursion.{all-has, all_has_itself, All-weaker, has_get_or}
 use Rattle.std.proofs.lemmas.List.{at_drop_more, at_drop_all}
 use Rattle.std.proofs.lemmas.Bool.{cases_Bool, and_parts, and_from, and_cases, and_left, and_right, or_parts, or_cases, cond-true, cond-false, not-false, not_from_true, ltb-false, le-ltb, false≢true}
@@ -58,47 +58,47 @@ abbrev AlikeOne : ColorTargetState → Option ColorTargetState → Type 0
 AlikeOne f None = Unit {0}
 AlikeOne f (Some t) = Alike f t
 
-all_like : (f : ColorTargetState) (targets : Targets) → alike_after (Some f) targets ≡ true → All (AlikeOne f) targets
+all_like : (f : ColorTargetState) (targets : Targets) → alike_after (Some f) targets ≡ true → AllByRecursion (AlikeOne f) targets
 all_like f [] h = tt
 all_like f (None ∷ rest) h = (tt, all_like f rest h)
 all_like f (Some t ∷ rest) h =
     let p = and_parts (writes_like f t) (alike_after (Some f) rest) h in
     ((alike f t).0 p.0, all_like f rest p.1)
 
-like_all : (f : ColorTargetState) (targets : Targets) → All (AlikeOne f) targets → alike_after (Some f) targets ≡ true
+like_all : (f : ColorTargetState) (targets : Targets) → AllByRecursion (AlikeOne f) targets → alike_after (Some f) targets ≡ true
 like_all f [] h = refl
 like_all f (None ∷ rest) h = like_all f rest h.1
 like_all f (Some t ∷ rest) h = and_from (writes_like f t) (alike_after (Some f) rest) ((alike f t).1 h.0) (like_all f rest h.1)
 
 -- a target is in a list with one more in front
-there : (o : Option ColorTargetState) (targets : Targets) (t : ColorTargetState) → Has targets (Some t) → Has (o ∷ targets) (Some t)
+there : (o : Option ColorTargetState) (targets : Targets) (t : ColorTargetState) → ContainsAt targets (Some t) → ContainsAt (o ∷ targets) (Some t)
 there o targets t w = (suc w.0, (let l = w.1 in omega arith), w.2)
 
-later_at : (targets : Targets) (t : ColorTargetState) (k : ℕ) → k < suc (length targets) → ((x : Option ColorTargetState) → get_or (None ∷ targets) k x ≡ Some t) → Has targets (Some t)
+later_at : (targets : Targets) (t : ColorTargetState) (k : ℕ) → k < suc (length targets) → ((x : Option ColorTargetState) → get_or (None ∷ targets) k x ≡ Some t) → ContainsAt targets (Some t)
 later_at targets t zero l e = let n = e None in let z : ◌≡◌ {A = ℕ} 0 1 = cc in absurd (omega arith)
 later_at targets t (suc k) l e = (k, omega arith, e)
 
-later : (targets : Targets) (t : ColorTargetState) → Has (None ∷ targets) (Some t) → Has targets (Some t)
+later : (targets : Targets) (t : ColorTargetState) → ContainsAt (None ∷ targets) (Some t) → ContainsAt targets (Some t)
 later targets t w = later_at targets t w.0 w.1 w.2
 
-nowhere : (t : ColorTargetState) → Has {X = Option ColorTargetState} [] (Some t) → ⊥
+nowhere : (t : ColorTargetState) → ContainsAt {X = Option ColorTargetState} [] (Some t) → ⊥
 nowhere t w = not-suc-le-zero w.1
 
 all_alike : (targets : Targets) → alike_targets targets ≡ true → AllAlike targets
 all_alike [] h s t v w = absurd (nowhere s v)
 all_alike (None ∷ rest) h s t v w = all_alike rest h s t (later rest s v) (later rest t w)
 all_alike (Some f ∷ rest) h s t v w =
-    let a : All (AlikeOne f) (Some f ∷ rest) = ((refl, refl), all_like f rest h) in
+    let a : AllByRecursion (AlikeOne f) (Some f ∷ rest) = ((refl, refl), all_like f rest h) in
     same_as f s t (all-has (AlikeOne f) (Some f ∷ rest) (Some s) a v) (all-has (AlikeOne f) (Some f ∷ rest) (Some t) a w)
 
-one_like : (f : ColorTargetState) (rest : Targets) → AllAlike (Some f ∷ rest) → (o : Option ColorTargetState) → Has rest o → AlikeOne f o
+one_like : (f : ColorTargetState) (rest : Targets) → AllAlike (Some f ∷ rest) → (o : Option ColorTargetState) → ContainsAt rest o → AlikeOne f o
 one_like f rest a None w = tt
 one_like f rest a (Some t) w = a f t (has_get_or (Some f ∷ rest) 0 None (omega arith)) (there (Some f) rest t w)
 
 alike_from : (targets : Targets) → AllAlike targets → alike_targets targets ≡ true
 alike_from [] a = refl
 alike_from (None ∷ rest) a = alike_from rest (λ s t v w. a s t (there None rest s v) (there None rest t w))
-alike_from (Some f ∷ rest) a = like_all f rest (All-weaker (Has rest) (AlikeOne f) (one_like f rest a) rest (all_has_itself rest))
+alike_from (Some f ∷ rest) a = like_all f rest (All-weaker (ContainsAt rest) (AlikeOne f) (one_like f rest a) rest (all_has_itself rest))
 
 module _ (d : Device) (targets : Targets) where
   abbrev has_flag : Type 0
@@ -131,7 +131,7 @@ module _ (d : Device) (targets : Targets) where
 
 -- some target reads the second color, or none does
 abbrev Second : Targets → Type 0
-Second targets = (t : ColorTargetState) × Has targets (Some t) × (reads_second_at (Some t) ≡ true)
+Second targets = (t : ColorTargetState) × ContainsAt targets (Some t) × (reads_second_at (Some t) ≡ true)
 
 second_any : (targets : Targets) → reads_second_any targets ≡ true → Second targets
 second_any [] h = absurd (false≢true h)
@@ -142,7 +142,7 @@ second_any (Some t ∷ rest) h =
       | inr e ↦ let w = second_any rest e in (w.0, there (Some t) rest w.0 w.1, w.2)
     ]
 
-second_none : (targets : Targets) → reads_second_any targets ≡ false → All (λ o. reads_second_at o ≡ false) targets
+second_none : (targets : Targets) → reads_second_any targets ≡ false → AllByRecursion (λ o. reads_second_at o ≡ false) targets
 second_none [] h = tt
 second_none (o ∷ rest) h = let p = or_parts (reads_second_at o) (reads_second_any rest) h in (p.0, second_none rest p.1)
 

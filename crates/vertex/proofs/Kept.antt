@@ -1,6 +1,6 @@
 -- What an accepted vertex state keeps, in words.
 use Rattle.std.proofs.Common.{◌≡◌, ℕ, zero, suc, ◌-◌, ◌≤◌, max, eqb, ◌⊎◌, List, [], ◌∷◌, map, length, get_or, replicate, Some, None, Option, Result, sym, refl, ◌∙◌, inl, inr, arith}
-use Rattle.std.specs.List.{ContainsAt as Has, AllByRecursion as All}
+use Rattle.std.specs.List.{ContainsAt, AllByRecursion}
 use Rattle.std.proofs.ByRecursion.{all-has, has_get_or}
 use Rattle.std.proofs.lemmas.List.{get_or_past, get_or-map, get_or_append_left, get_or-append_right, length-map}
 use Rattle.std.proofs.lemmas.Bool.{cases_lt, cond_both}
@@ -21,19 +21,19 @@ from_start : (m : ℕ) (part : List VertexAttribute) → m ≤ greatest_end m pa
 from_start m [] = omega arith
 from_start m (a ∷ rest) = let h = from_start (max m (attribute_end a)) rest in omega arith
 
-each_end : (m : ℕ) (part : List VertexAttribute) → All (λ a. attribute_end a ≤ greatest_end m part) part
+each_end : (m : ℕ) (part : List VertexAttribute) → AllByRecursion (λ a. attribute_end a ≤ greatest_end m part) part
 each_end m [] = tt
 each_end m (a ∷ rest) =
     (let h = from_start (max m (attribute_end a)) rest in omega arith, each_end (max m (attribute_end a)) rest)
 
-here : (a : VertexAttribute) (rest : List VertexAttribute) → Has (a ∷ rest) a
+here : (a : VertexAttribute) (rest : List VertexAttribute) → ContainsAt (a ∷ rest) a
 here a rest = (0, omega arith, λ x. refl)
 
-there : (a : VertexAttribute) (rest : List VertexAttribute) (b : VertexAttribute) → Has rest b → Has (a ∷ rest) b
+there : (a : VertexAttribute) (rest : List VertexAttribute) (b : VertexAttribute) → ContainsAt rest b → ContainsAt (a ∷ rest) b
 there a rest b w = (suc w.0, (let l = w.1 in omega arith), w.2)
 
 abbrev OneOf : ℕ → List VertexAttribute → Type 0
-OneOf n part = (a : VertexAttribute) × Has part a × (attribute_end a ≡ n)
+OneOf n part = (a : VertexAttribute) × ContainsAt part a × (attribute_end a ≡ n)
 
 one_of : (m : ℕ) (part : List VertexAttribute) → (greatest_end m part ≡ m) ⊎ OneOf (greatest_end m part) part
 one_of m [] = inl refl
@@ -64,7 +64,7 @@ no_step (suc n) zero = refl
 no_step (suc n) (suc k) = no_step n k
 
 -- where no end is beyond n, the greatest is not
-within_bound : (part : List VertexAttribute) (n : ℕ) → ((a : VertexAttribute) → Has part a → attribute_end a ≤ n) → last_stride_of part ≤ n
+within_bound : (part : List VertexAttribute) (n : ℕ) → ((a : VertexAttribute) → ContainsAt part a → attribute_end a ≤ n) → last_stride_of part ≤ n
 within_bound part n f =
     elim (reached part) [
       | inl e ↦ let z = e.1 in omega arith
@@ -78,7 +78,7 @@ module _ (d : Device) (slots : List (Option VertexBufferLayout)) (attributes : L
       let h = k.stride in
       cond_both (eqb s.array_stride 0) _ _ (λ n. n ≤ 536870912) (λ t. omega arith) (λ f. omega arith)
 
-  keeps : (o : Option VertexBufferLayout) → Has slots o → KeptOf attributes o (step_of attributes o)
+  keeps : (o : Option VertexBufferLayout) → ContainsAt slots o → KeptOf attributes o (step_of attributes o)
   keeps None w = tt
   keeps (Some s) w =
       let k = l.each s w in

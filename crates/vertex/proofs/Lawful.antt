@@ -1,6 +1,6 @@
 -- The verdicts in order are all none exactly if every rule holds.
 use Rattle.std.proofs.Common.{◌≡◌, ℕ, ◌+◌, ◌%◌, ◌≤◌, Bool, true, false, not, eqb, ◌≢◌, List, [], ◌∷◌, ◌++◌, length, Some, None, Option, Result, refl, inl, inr}
-use Rattle.std.specs.List.{ContainsAt as Has, AllByRecursion as All}
+use Rattle.std.specs.List.{ContainsAt, AllByRecursion}
 use Rattle.std.proofs.ByRecursion.{all-has, all_has_itself, All-weaker}
 use Rattle.std.proofs.lemmas.Bool.{cases_Bool, not-false, not_from_true, ltb-false, leb-false, le-ltb, lt-leb, eqb-true, eq-eqb, eqb-false, ne_eqb, or_parts, or_from}
 use Rattle.faults.specs.Faults.{first_of, within, Judged}
@@ -72,7 +72,7 @@ module _ (d : Device) (a : VertexAttribute) where
     second_round l = (if_not _ _ (lt-leb _ _ l.near), none_format l.format)
 
 -- two facts of each element make a third
-all_both : {X : Type 0} (P Q R : X → Type 0) → ((x : X) → P x → Q x → R x) → (xs : List X) → All P xs → All Q xs → All R xs
+all_both : {X : Type 0} (P Q R : X → Type 0) → ((x : X) → P x → Q x → R x) → (xs : List X) → AllByRecursion P xs → AllByRecursion Q xs → AllByRecursion R xs
 all_both P Q R f [] p q = tt
 all_both P Q R f (x ∷ xs) p q = (f x p.0 q.0, all_both P Q R f xs p.1 q.1)
 
@@ -97,7 +97,7 @@ fresh_right used (x ∷ xs) ys p = fresh_right (mark used x) xs ys p.1
 abbrev Free : (ℕ → Bool) → VertexAttribute → Type 0
 Free used a = used a.shader_location ≡ false
 
-fresh_free : (used : ℕ → Bool) (xs : List VertexAttribute) → Fresh used xs → All (Free used) xs
+fresh_free : (used : ℕ → Bool) (xs : List VertexAttribute) → Fresh used xs → AllByRecursion (Free used) xs
 fresh_free used [] p = tt
 fresh_free used (x ∷ xs) p =
     (p.0, All-weaker (Free (mark used x)) (Free used) (λ a h. (or_parts _ _ h).1) xs (fresh_free (mark used x) xs p.1))
@@ -109,7 +109,7 @@ fresh_different used (x ∷ xs) p = (
   fresh_different (mark used x) xs p.1,
 )
 
-different_fresh : (used : ℕ → Bool) (xs : List VertexAttribute) → All (Free used) xs → PairwiseDifferent xs → Fresh used xs
+different_fresh : (used : ℕ → Bool) (xs : List VertexAttribute) → AllByRecursion (Free used) xs → PairwiseDifferent xs → Fresh used xs
 different_fresh used [] p q = tt
 different_fresh used (x ∷ xs) p q = (
   p.0,
@@ -118,13 +118,13 @@ different_fresh used (x ∷ xs) p q = (
       q.1,
 )
 
-all_unused : (xs : List VertexAttribute) → All (Free unused) xs
+all_unused : (xs : List VertexAttribute) → AllByRecursion (Free unused) xs
 all_unused [] = tt
 all_unused (x ∷ xs) = (refl, all_unused xs)
 
 -- the second round at the attributes of a slot
 module _ (d : Device) where
-  claims_none : (used : ℕ → Bool) (part : List VertexAttribute) → first_of (claims_verdicts d used part) ≡ None → All (Claimable d) part × Fresh used part
+  claims_none : (used : ℕ → Bool) (part : List VertexAttribute) → first_of (claims_verdicts d used part) ≡ None → AllByRecursion (Claimable d) part × Fresh used part
   claims_none used [] h = (tt, tt)
   claims_none used (a ∷ rest) h =
       let k = both_none (claim_verdicts d used a) (claims_verdicts d (mark used a) rest) h in
@@ -132,7 +132,7 @@ module _ (d : Device) where
       let r = claims_none (mark used a) rest k.1 in
       (((v.0, v.1.0), r.0), (not_if _ _ v.1.1.0, r.1))
 
-  none_claims : (used : ℕ → Bool) (part : List VertexAttribute) → All (Claimable d) part → Fresh used part → first_of (claims_verdicts d used part) ≡ None
+  none_claims : (used : ℕ → Bool) (part : List VertexAttribute) → AllByRecursion (Claimable d) part → Fresh used part → first_of (claims_verdicts d used part) ≡ None
   none_claims used [] c f = refl
   none_claims used (a ∷ rest) c f =
       none_both (claim_verdicts d used a) (claims_verdicts d (mark used a) rest)
@@ -143,7 +143,7 @@ module _ (d : Device) where
   pub record PartLawful (s : VertexBufferLayout) (part : List VertexAttribute) : Type 0 where
     pub stride : s.array_stride ≤ d.limits.max_vertex_buffer_array_stride
     pub aligned : s.array_stride % 4 ≡ 0
-    pub each : All (AttributeLawful d (reach d s)) part
+    pub each : AllByRecursion (AttributeLawful d (reach d s)) part
 
   module _ (index : ℕ) (used : ℕ → Bool) (s : VertexBufferLayout) (part : List VertexAttribute) where
     part_none : first_of (part_verdicts d index used s part) ≡ None → PartLawful s part × Fresh used part
@@ -176,7 +176,7 @@ module _ (d : Device) where
     Holds None = Unit {0}
     Holds (Some s) = PartLawful s (part_of attributes s)
 
-    slots_none : (index : ℕ) (used : ℕ → Bool) (slots : List (Option VertexBufferLayout)) → first_of (slots_verdicts d attributes index used slots) ≡ None → All Holds slots × Fresh used (attributes_of attributes slots)
+    slots_none : (index : ℕ) (used : ℕ → Bool) (slots : List (Option VertexBufferLayout)) → first_of (slots_verdicts d attributes index used slots) ≡ None → AllByRecursion Holds slots × Fresh used (attributes_of attributes slots)
     slots_none index used [] h = (tt, tt)
     slots_none index used (None ∷ rest) h = let r = slots_none (index + 1) used rest h in ((tt, r.0), r.1)
     slots_none index used (Some s ∷ rest) h =
@@ -185,7 +185,7 @@ module _ (d : Device) where
         let r = slots_none (index + 1) (mark_all used (part_of attributes s)) rest k.1 in
         ((v.0, r.0), fresh_append used (part_of attributes s) (attributes_of attributes rest) v.1 r.1)
 
-    none_slots : (index : ℕ) (used : ℕ → Bool) (slots : List (Option VertexBufferLayout)) → All Holds slots → Fresh used (attributes_of attributes slots) → first_of (slots_verdicts d attributes index used slots) ≡ None
+    none_slots : (index : ℕ) (used : ℕ → Bool) (slots : List (Option VertexBufferLayout)) → AllByRecursion Holds slots → Fresh used (attributes_of attributes slots) → first_of (slots_verdicts d attributes index used slots) ≡ None
     none_slots index used [] l f = refl
     none_slots index used (None ∷ rest) l f = none_slots (index + 1) used rest l.1 f
     none_slots index used (Some s ∷ rest) l f =
@@ -195,8 +195,8 @@ module _ (d : Device) where
 
 module _ (slots : List (Option VertexBufferLayout)) (attributes : List VertexAttribute) where
   -- from the slots that are there to each place
-  from_each : (P : Option VertexBufferLayout → Type 0) → P None → ((s : VertexBufferLayout) → Has slots (Some s) → P (Some s)) → All P slots
-  from_each P n f = All-weaker (Has slots) P (λ o. elim o as (λ v. Has slots v → P v) [ Some s ↦ f s | None ↦ λ h. n ]) slots (all_has_itself slots)
+  from_each : (P : Option VertexBufferLayout → Type 0) → P None → ((s : VertexBufferLayout) → ContainsAt slots (Some s) → P (Some s)) → AllByRecursion P slots
+  from_each P n f = All-weaker (ContainsAt slots) P (λ o. elim o as (λ v. ContainsAt slots v → P v) [ Some s ↦ f s | None ↦ λ h. n ]) slots (all_has_itself slots)
 
   -- the ranges alone
   in_range : first_of (ranges_verdicts (length attributes) 0 slots) ≡ None → InRange slots attributes
@@ -219,7 +219,7 @@ module _ (d : Device) (slots : List (Option VertexBufferLayout)) (attributes : L
       record {
         stride = l.stride;
         aligned = l.aligned;
-        each = All-weaker (Has (part_of attributes s)) (AttributeLawful d (reach d s)) l.part (part_of attributes s) (all_has_itself (part_of attributes s));
+        each = All-weaker (ContainsAt (part_of attributes s)) (AttributeLawful d (reach d s)) l.part (part_of attributes s) (all_has_itself (part_of attributes s));
       }
 
   pub lawful : first_of (vertex_verdicts d slots attributes) ≡ None → Lawful d slots attributes

@@ -1,6 +1,6 @@
 -- One slot: its three groups of verdicts, one call after the other.
 use Rattle.std.proofs.Common.{◌≡◌, ℕ, ◌+◌, ◌<◌, Bool, List, [], ◌∷◌, ◌++◌, length, Some, None, Ok, Err, Option, Result, sym, refl, ap, ◌∙◌, arith}
-use Rattle.std.specs.List.{AllByRecursion as All}
+use Rattle.std.specs.List.{AllByRecursion}
 use Rattle.std.proofs.ByRecursion.{All-weaker}
 use Rattle.std.proofs.lemmas.Bool.{leb-false, ltb-false, le-ltb}
 use Rattle.faults.specs.Faults.{or_else, first_of, answer}
@@ -18,7 +18,7 @@ use Rattle.vertex.proofs.Loops.{passes}
 low : (d : Device) (most : ℕ) (a : VertexAttribute) → first_of (attribute_verdicts d most a) ≡ None → a.shader_location < d.limits.max_vertex_attributes
 low d most a h = leb-false _ _ (not_if _ _ (all_none (attribute_verdicts d most a) h).1.1.0)
 
-pub all_low : (d : Device) (most : ℕ) (part : List VertexAttribute) (y x : ℕ) → Ok y ≡ answer (first_of (attributes_verdicts d most part)) x → All (λ a. a.shader_location < 32) part
+pub all_low : (d : Device) (most : ℕ) (part : List VertexAttribute) (y x : ℕ) → Ok y ≡ answer (first_of (attributes_verdicts d most part)) x → AllByRecursion (λ a. a.shader_location < 32) part
 all_low d most part y x h =
     All-weaker (λ a. first_of (attribute_verdicts d most a) ≡ None) (λ a. a.shader_location < 32) (λ a k. let l = low d most a k in let c = d.limits.attributes in omega arith) part
     (each_none (attribute_verdicts d most) part (none_from_ok _ x y h))
@@ -59,7 +59,7 @@ stays : (attributes : List VertexAttribute) (index : ℕ) (o : Option VertexBuff
 stays attributes index None h = tt
 stays attributes index (Some s) h = ltb-false _ _ (not_if _ _ h)
 
-pub all_stay : (attributes : List VertexAttribute) (index : ℕ) (slots : List (Option VertexBufferLayout)) → first_of (ranges_verdicts (length attributes) index slots) ≡ None → All (InList attributes) slots
+pub all_stay : (attributes : List VertexAttribute) (index : ℕ) (slots : List (Option VertexBufferLayout)) → first_of (ranges_verdicts (length attributes) index slots) ≡ None → AllByRecursion (InList attributes) slots
 all_stay attributes index [] h = tt
 all_stay attributes index (o ∷ rest) h =
     let k = all_none (ranges_verdicts (length attributes) index (o ∷ rest)) h in
@@ -69,7 +69,7 @@ none_stays : (attributes : List VertexAttribute) (index : ℕ) (o : Option Verte
 none_stays attributes index None h = refl
 none_stays attributes index (Some s) h = if_not _ _ (le-ltb _ _ h)
 
-pub none_stay : (attributes : List VertexAttribute) (index : ℕ) (slots : List (Option VertexBufferLayout)) → All (InList attributes) slots → first_of (ranges_verdicts (length attributes) index slots) ≡ None
+pub none_stay : (attributes : List VertexAttribute) (index : ℕ) (slots : List (Option VertexBufferLayout)) → AllByRecursion (InList attributes) slots → first_of (ranges_verdicts (length attributes) index slots) ≡ None
 none_stay attributes index [] h = refl
 none_stay attributes index (o ∷ rest) h =
     ap (λ v. or_else v (first_of (ranges_verdicts (length attributes) (index + 1) rest))) (none_stays attributes index o h.0) ∙ none_stay attributes (index + 1) rest h.1

@@ -1,7 +1,7 @@
 // The judging of a vertex state: the range of each slot, their number, slot by slot the stride and two rounds of its
 // attributes, and the number of attributes.
 ghost use Rattle.std.specs.Prelude.{◌≡◌, ◌-◌, ◌^◌, ◌<◌, ◌≤◌, length, IfOk, None, sum_by, OnOk};
-ghost use Rattle.std.specs.List.{AllByRecursion as All};
+ghost use Rattle.std.specs.List.{AllByRecursion};
 ghost use Rattle.faults.specs.Faults.{answer, first_of};
 ghost use Rattle.descriptor.specs.Vertex.{attribute_end};
 ghost use Rattle.vertex.specs.Claims.{claimed, Roomy, Claims, InList};
@@ -126,7 +126,7 @@ fn claim_attributes(
     part: &[VertexAttribute],
 ) -> Result<(), VertexStateError>
     requires roomy { Roomy places.old }
-    requires low { All (λ a. a.shader_location < 32) part.now }
+    requires low { AllByRecursion (λ a. a.shader_location < 32) part.now }
     ensures verdict { result ≡ answer (first_of (claims_verdicts device.now (claimed places.old) part.now)) tt }
     ensures after { OnOk result (Claims (mark_all (claimed places.old) part.now) places.new) }
 {
