@@ -1,11 +1,8 @@
 -- Sets of features and of downlevel flags: the place of each name, and when one set is part of another.
-use Rattle.std.specs.Prelude.{ℕ, ◌^◌, Bool, ◌==◌, bit_and, bit_or}
+use Rattle.std.specs.Prelude.{ℕ, ◌^◌, Bool, bit_or}
+use Rattle.formats.specs.Flags.{holds}
 use Rattle.formats.specs.declared.features.Features.{Features}
 use Rattle.formats.specs.declared.features.DownlevelFlags.{DownlevelFlags}
-
--- each of the bits is set in the word
-abbrev pub holds : ℕ → ℕ → Bool
-holds word bits = bit_and word bits == bits
 
 -- each feature of the second set is in the first
 abbrev pub includes : Features → Features → Bool

@@ -1,15 +1,8 @@
-// What a device can do beyond the least: a set of features and a set of downlevel flags, a bit a name.
-ghost use Rattle.std.specs.Prelude.{◌≡◌};
-ghost use Rattle.formats.specs.Features.{holds, includes, includes_flags, no_features, united};
+// What a device can do beyond the least: a set of features and a set of downlevel flags.
+ghost use Rattle.std.specs.Prelude.{refl};
 
+use crate::flags::{Flags, NamedFlags};
 use std::fmt;
-
-// Whether each bit of `bits` is set in `word`.
-fn is_set(word: u32, bits: u32) -> bool
-    ensures { result ≡ holds word bits }
-{
-    word & bits == bits
-}
 
 #[derive(Clone, Copy, PartialEq, Eq, Debug)]
 pub struct Features {
@@ -40,35 +33,6 @@ impl Features {
     pub const MULTIVIEW: Features = Features { bits: 1 << 10 };
 
     pub const SELECTIVE_MULTIVIEW: Features = Features { bits: 1 << 11 };
-
-    pub fn empty() -> Features
-        ensures { result ≡ no_features }
-    {
-        Features { bits: 0 }
-    }
-
-    // Every bit is kept, also one that has no name.
-    pub fn from_bits_retain(bits: u32) -> Features
-        ensures { result.bits ≡ bits }
-    {
-        Features { bits }
-    }
-
-    // The features of both.
-    pub fn union(self, other: Features) -> Features
-        ensures { result ≡ united self other }
-    {
-        Features {
-            bits: self.bits | other.bits,
-        }
-    }
-
-    // Whether each of the features is among these.
-    pub fn contains(self, features: Features) -> bool
-        ensures { result ≡ includes self features }
-    {
-        is_set(self.bits, features.bits)
-    }
 }
 
 // The features that have a name, in the order of their bits.
@@ -96,20 +60,33 @@ const NAMED: [(Features, &str); 12] = [
     (Features::SELECTIVE_MULTIVIEW, "SELECTIVE_MULTIVIEW"),
 ];
 
-// The names of the features, with a bar between two.
+impl Flags for Features {
+    ghost word = { λ s. s.bits };
+
+    ghost of_word = { λ n. record { bits = n } };
+
+    ghost word_kept = { λ n. refl };
+
+    ghost word_alone = { λ s. refl };
+
+    fn bits(self) -> u32 {
+        self.bits
+    }
+
+    fn from_bits_retain(bits: u32) -> Features {
+        Features { bits }
+    }
+}
+
+impl NamedFlags for Features {
+    fn named<'a>() -> &'a [(Features, &'a str)] {
+        &NAMED
+    }
+}
+
 impl fmt::Display for Features {
     fn fmt<W: fmt::Write>(&self, f: &mut fmt::Formatter<W>) -> fmt::Result {
-        let mut more = false;
-        for (feature, name) in NAMED.iter() {
-            if self.contains(*feature) {
-                if more {
-                    f.write_str(" | ")?;
-                }
-                f.write_str(name)?;
-                more = true;
-            }
-        }
-        Ok(())
+        self.write_names(f)
     }
 }
 
@@ -124,20 +101,6 @@ impl DownlevelFlags {
     pub const DEPTH_BIAS_CLAMP: DownlevelFlags = DownlevelFlags { bits: 1 << 1 };
 
     pub const WEBGPU_TEXTURE_FORMAT_SUPPORT: DownlevelFlags = DownlevelFlags { bits: 1 << 2 };
-
-    // Every bit is kept, also one that has no name.
-    pub fn from_bits_retain(bits: u32) -> DownlevelFlags
-        ensures { result.bits ≡ bits }
-    {
-        DownlevelFlags { bits }
-    }
-
-    // Whether each of the flags is among these.
-    pub fn contains(self, flags: DownlevelFlags) -> bool
-        ensures { result ≡ includes_flags self flags }
-    {
-        is_set(self.bits, flags.bits)
-    }
 }
 
 // The flags that have a name, in the order of their bits.
@@ -150,20 +113,33 @@ const NAMED_FLAGS: [(DownlevelFlags, &str); 3] = [
     ),
 ];
 
-// The names of the flags, with a bar between two.
+impl Flags for DownlevelFlags {
+    ghost word = { λ s. s.bits };
+
+    ghost of_word = { λ n. record { bits = n } };
+
+    ghost word_kept = { λ n. refl };
+
+    ghost word_alone = { λ s. refl };
+
+    fn bits(self) -> u32 {
+        self.bits
+    }
+
+    fn from_bits_retain(bits: u32) -> DownlevelFlags {
+        DownlevelFlags { bits }
+    }
+}
+
+impl NamedFlags for DownlevelFlags {
+    fn named<'a>() -> &'a [(DownlevelFlags, &'a str)] {
+        &NAMED_FLAGS
+    }
+}
+
 impl fmt::Display for DownlevelFlags {
     fn fmt<W: fmt::Write>(&self, f: &mut fmt::Formatter<W>) -> fmt::Result {
-        let mut more = false;
-        for (flag, name) in NAMED_FLAGS.iter() {
-            if self.contains(*flag) {
-                if more {
-                    f.write_str(" | ")?;
-                }
-                f.write_str(name)?;
-                more = true;
-            }
-        }
-        Ok(())
+        self.write_names(f)
     }
 }
 

@@ -1,5 +1,5 @@
 // What can be done with textures of a format: what the table grants, and what an adapter answers.
-ghost use Rattle.std.specs.Prelude.{◌≡◌, ◌≤◌, if◌then◌else◌};
+ghost use Rattle.std.specs.Prelude.{◌≡◌, ◌^◌, ◌<◌, filter, sum};
 ghost use Rattle.formats.specs.Samples.{supports, sum_of_counts};
 
 // One sample is always supported, and has no flag.
@@ -33,27 +33,22 @@ impl TextureFormatFeatureFlags {
         }
     }
 
-    // The count if it is supported, else 0.
-    fn count_or_zero(self, count: u32) -> u32
-        ensures value { result ≡ (if supports self count then count else 0) }
-        ensures most { result ≤ count }
+    // The sum of those of the counts that are supported.
+    fn sum_of_supported(self, counts: &[u32]) -> u32
+        requires { sum (filter (supports self) counts.now) < 2 ^ 32 }
+        ensures { result ≡ sum (filter (supports self) counts.now) }
     {
-        if self.sample_count_supported(count) {
-            count
-        } else {
-            0
-        }
+        counts
+            .iter()
+            .filter(|count| self.sample_count_supported(**count))
+            .sum()
     }
 
     // The sum of the counts that are supported, 1 among them.
     pub fn supported_sample_counts(self) -> u32
         ensures { result ≡ sum_of_counts self }
     {
-        self.count_or_zero(1)
-            + self.count_or_zero(2)
-            + self.count_or_zero(4)
-            + self.count_or_zero(8)
-            + self.count_or_zero(16)
+        self.sum_of_supported(&[1, 2, 4, 8, 16])
     }
 }
 

@@ -2,6 +2,7 @@
 #![tactic(auto)]
 
 pub mod features;
+pub mod flags;
 pub mod format_features;
 mod rows;
 pub mod texture;

@@ -3,6 +3,7 @@ ghost use Rattle.std.specs.Prelude.{◌≡◌};
 ghost use Rattle.formats.specs.Texture as table;
 
 use crate::features::Features;
+use crate::flags::Flags;
 use crate::texture::{FormatAspects, TargetCost, TextureFormat};
 
 // Which devices have something: none, all, or those with the features.

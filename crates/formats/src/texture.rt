@@ -1,15 +1,12 @@
 // The texture formats: what each holds, what a color target of it costs, and what can be done with it, from one table.
-ghost use Rattle.std.specs.Prelude.{◌≡◌, Decides};
-ghost use Rattle.formats.specs.Texture.{aspects_of, cost_of, required_of, guaranteed, place_of, same_format, ColorApart, Multiple, Small, OnlyFour};
-ghost use Rattle.std.specs.Cmp.Rules.{comparing};
-ghost use Rattle.std.proofs.Common.{rules};
-ghost use Rattle.std.specs.Cmp as Keys;
+ghost use Rattle.std.specs.Prelude.{◌≡◌};
+ghost use Rattle.formats.specs.Texture.{aspects_of, cost_of, required_of, guaranteed, ColorApart, Multiple, Small, OnlyFour};
 
 use crate::features::Features;
 use crate::format_features::{TextureFormatFeatureFlags, TextureFormatFeatures};
 use crate::rows::row_of;
 
-#[derive(Clone, Copy, Debug)]
+#[derive(Clone, Copy, Debug, PartialEq, Eq)]
 pub enum TextureFormat {
     R8Unorm,
     R8Uint,
@@ -112,12 +109,6 @@ impl TextureFormat {
         TextureFormat::Depth32FloatStencil8,
     ];
 
-    fn place(self) -> usize
-        ensures { result ≡ place_of self }
-    {
-        self as usize
-    }
-
     pub fn aspects(self) -> FormatAspects
         ensures rule { result ≡ aspects_of self }
         ensures apart { ColorApart result }
@@ -160,24 +151,6 @@ impl TextureFormat {
     }
 }
 
-// A derived equality would promise nothing, there being so many cases.
-impl PartialEq for TextureFormat {
-    ghost eq = { λ a b. same_format a b };
-
-    ghost laws = { Keys.partial_equiv_from_equiv (Prim.search (comparing, rules)) };
-
-    fn eq(&self, other: &TextureFormat) -> bool
-        ensures value { result ≡ same_format self.now other.now }
-        ensures exactly { Decides result (self.now ≡ other.now) }
-    {
-        self.place() == other.place()
-    }
-}
-
-impl Eq for TextureFormat {
-    ghost laws = { Prim.search (comparing, rules) };
-}
-
 #[cfg(test)]
 mod tests {
     use super::*;
@@ -186,7 +159,7 @@ mod tests {
     #[test]
     fn all(rt: HostRuntime) {
         for (place, format) in TextureFormat::ALL.iter().enumerate() {
-            assert_eq!(rt; format.place(), place);
+            assert_eq!(rt; *format as usize, place);
         }
     }
 }

@@ -2,7 +2,7 @@
 ghost use Rattle.std.specs.Prelude.{◌≡◌, ◌<◌, ◌≤◌};
 ghost use Rattle.formats.specs.Vertex.{size_at, size_of, is64bit};
 
-#[derive(Clone, Copy, Debug)]
+#[derive(Clone, Copy, PartialEq, Eq, Debug)]
 pub enum VertexFormat {
     Uint8,
     Uint8x2,
@@ -79,12 +79,12 @@ impl VertexFormat {
     pub fn is_64bit(self) -> bool
         ensures { result ≡ is64bit self }
     {
-        match self {
+        matches!(
+            self,
             VertexFormat::Float64
-            | VertexFormat::Float64x2
-            | VertexFormat::Float64x3
-            | VertexFormat::Float64x4 => true,
-            _ => false,
-        }
+                | VertexFormat::Float64x2
+                | VertexFormat::Float64x3
+                | VertexFormat::Float64x4
+        )
     }
 }
