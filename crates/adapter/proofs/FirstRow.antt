@@ -1,21 +1,27 @@
 -- The first row of a format answers.
-use Rattle.std.proofs.Common.{◌≡◌, ℕ, zero, suc, ◌+◌, ◌<◌, ◌≤◌, Bool, cond, List, [], ◌∷◌, length, drop, Decides, sym, refl, ap, ◌∙◌, le_of_suc-le-suc, not-suc-le-zero, arith}
-use Rattle.std.proofs.lemmas.List.{at_drop_more, at_drop_all}
-use Rattle.formats.proofs.Same.{means_same, decided, differ}
+use Rattle.std.proofs.Common.{◌≡◌, Bor, Some, None, Option, ℕ, zero, suc, ◌<◌, cond, List, [], ◌∷◌, length, find, refl, ap, ◌∙◌, le_of_suc-le-suc, not-suc-le-zero, arith, inl, inr}
+use Rattle.std.specs.Option.{option_map_or, option_copied, MatchOption}
+use Rattle.std.proofs.lemmas.Bool.{cases_Bool}
+use Rattle.formats.specs.Texture.{same_format}
+use Rattle.formats.proofs.Same.{means_same, differ}
 use Rattle.formats.specs.declared.format_features.TextureFormatFeatures.{TextureFormatFeatures}
 use Rattle.formats.specs.declared.texture.TextureFormat.{TextureFormat}
 use Rattle.adapter.specs.Listed.{nothing, listed, row_at, NoneBefore, FirstRowAnswers}
 use Rattle.adapter.specs.declared.listed.FormatRow.{FormatRow}
 
--- one turn of the search: the row at place i answers, or the answer is left to the rows after it
-pub turn : (f : TextureFormat) (rows : List FormatRow) (i : ℕ) (r : Bool) {b : Bool} → i < length rows → Decides r ((row_at rows i).format ≡ f) → r ≡ b → listed (drop i rows) f ≡ cond b (row_at rows i).features (listed (drop (i + 1) rows) f)
-turn f rows i r h d t =
-    at_drop_more (λ xs. listed xs f) rows i _ h
-    ∙ ap (λ b. cond b (row_at rows i).features (listed (drop (i + 1) rows) f)) (sym (decided (row_at rows i).format f r d) ∙ t)
+-- what the list answers is what its first row of the format grants
+pub found : (f : TextureFormat) (rows : List FormatRow) → option_map_or (λ (row : FormatRow). row.features) (find (λ (row : FormatRow). same_format row.format f) rows) nothing ≡ listed rows f
+found f [] = refl
+found f (row ∷ rows) =
+    elim (cases_Bool (same_format row.format f)) [
+      | inl t ↦ rw t refl
+      | inr n ↦ rw n (found f rows)
+    ]
 
--- no row is left
-pub ends : (f : TextureFormat) (rows : List FormatRow) (i : ℕ) → length rows ≤ i → listed (drop i rows) f ≡ nothing
-ends f rows i h = at_drop_all (λ xs. listed xs f) rows i h
+-- the same, of a search that answered a reference
+pub answered : (f : TextureFormat) (rows : List FormatRow) (o : Option (Bor FormatRow)) (r : TextureFormatFeatures) → option_copied o ≡ find (λ row. same_format row.format f) rows → MatchOption o (r ≡ nothing) (λ row. r ≡ row.now.features) → r ≡ listed rows f
+answered f rows (Some row) r e m = m ∙ ap (λ o. option_map_or (λ (row : FormatRow). row.features) o nothing) e ∙ found f rows
+answered f rows None r e m = m ∙ ap (λ o. option_map_or (λ (row : FormatRow). row.features) o nothing) e ∙ found f rows
 
 -- a row of another format leaves the answer to the rows after it
 past : (f : TextureFormat) (row : FormatRow) (rows : List FormatRow) → (row.format ≡ f → ⊥) → listed (row ∷ rows) f ≡ listed rows f

@@ -5,9 +5,8 @@ use Rattle.formats.specs.Features.{includes, includes_flags, texture_adapter_spe
 use Rattle.formats.specs.Texture.{required_of, guaranteed}
 use Rattle.formats.specs.declared.format_features.TextureFormatFeatures.{TextureFormatFeatures}
 use Rattle.formats.specs.declared.texture.TextureFormat.{TextureFormat}
-use Rattle.device.specs.Lacking.{features_fault}
+use Rattle.device.specs.Lacking.{MissingFeatures, features_fault}
 use Rattle.device.specs.declared.Device.{Device}
-use Rattle.device.specs.declared.MissingFeatures.{MissingFeatures}
 
 -- what an adapter means: its answer for each format
 abbrev pub Answers : Type 0

@@ -8,6 +8,7 @@ ghost use Rattle.adapter.specs.Used.{answer_used, asks_adapter, SameForSameMap};
 
 use device::{Device, MissingFeatures};
 use formats::features::{DownlevelFlags, Features};
+use formats::flags::Flags;
 use formats::format_features::TextureFormatFeatures;
 use formats::texture::TextureFormat;
 

@@ -1,5 +1,7 @@
 // The adapter that answers from a list of rows.
-ghost use Rattle.std.specs.Prelude.{◌≡◌};
+ghost use Rattle.std.specs.Prelude.{◌≡◌, ◌↔◌, IsTrue, find};
+ghost use Rattle.std.specs.Option.{option_copied};
+ghost use Rattle.formats.specs.Texture.{same_format};
 ghost use Rattle.adapter.specs.Listed.{listed, FirstRowAnswers};
 
 use crate::Adapter;
@@ -11,6 +13,16 @@ use formats::texture::TextureFormat;
 pub struct FormatRow {
     pub format: TextureFormat,
     pub features: TextureFormatFeatures,
+}
+
+impl FormatRow {
+    // Whether the row is about the format.
+    pub fn is_of(&self, format: TextureFormat) -> bool
+        ensures value { result ≡ same_format self.now.format format }
+        ensures exactly { IsTrue result ↔ (self.now.format ≡ format) }
+    {
+        self.format == format
+    }
 }
 
 // The first row of a format answers; a format without a row is granted nothing.
@@ -30,6 +42,12 @@ const NOTHING: TextureFormatFeatures = TextureFormatFeatures {
     },
 };
 
+fn first_row<'a>(rows: &'a [FormatRow], format: TextureFormat) -> Option<&'a FormatRow>
+    ensures { option_copied result ≡ find (λ row. same_format row.format format) rows.now }
+{
+    rows.iter().find(|row| row.is_of(format))
+}
+
 impl<'a> Adapter for ListedAdapter<'a> {
     ghost answers = { λ a. listed a.rows.now };
 
@@ -37,11 +55,6 @@ impl<'a> Adapter for ListedAdapter<'a> {
         ensures value { result ≡ listed self.now.rows.now format }
         ensures law { FirstRowAnswers self.now.rows.now format result }
     {
-        for row in self.rows {
-            if row.format == format {
-                return row.features;
-            }
-        }
-        NOTHING
+        first_row(self.rows, format).map_or(NOTHING, |row| row.features)
     }
 }

@@ -2,11 +2,21 @@
 use Rattle.std.specs.Prelude.{ℕ, not, Option}
 use Rattle.faults.specs.Faults.{fault_if}
 use Rattle.formats.specs.Features.{includes, includes_flags}
+use Rattle.formats.specs.Flags.{holds}
 use Rattle.formats.specs.declared.features.DownlevelFlags.{DownlevelFlags}
 use Rattle.formats.specs.declared.features.Features.{Features}
-use Rattle.device.specs.declared.MissingDownlevelFlags.{MissingDownlevelFlags}
-use Rattle.device.specs.declared.MissingFeatures.{MissingFeatures}
+use Rattle.device.specs.declared.Missing.{Missing}
 use Rattle.device.specs.declared.Device.{Device}
+
+abbrev pub MissingFeatures : Type 0
+MissingFeatures = Missing Features
+
+abbrev pub MissingDownlevelFlags : Type 0
+MissingDownlevelFlags = Missing DownlevelFlags
+
+-- of sets that are words of bits, the one that is held does not have all that is needed
+abbrev pub lacks : {S : Type 0} → (S → ℕ) → S → S → Option (Missing S)
+lacks word held needed = fault_if (not (holds (word held) (word needed))) (record { 0 = needed })
 
 -- the device lacks a feature of the set
 abbrev pub features_fault : Device → Features → Option MissingFeatures

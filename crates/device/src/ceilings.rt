@@ -4,7 +4,7 @@ ghost use Rattle.device.specs.Ceilings.{above_ceiling, Limited, Taken, failed_li
 ghost use Rattle.device.specs.Words.{limit_words, failed_limit_words};
 
 use crate::limits::Limits;
-use faults::first_fault;
+use faults::{Fault, first_fault};
 use std::fmt;
 
 #[derive(Clone, Copy, PartialEq, Eq, Debug)]
@@ -24,10 +24,10 @@ pub struct FailedLimit {
     pub allowed: u64,
 }
 
-impl FailedLimit {
-    pub fn number(&self) -> u32
-        ensures { result ≡ failed_limit_number self.now }
-    {
+impl Fault for FailedLimit {
+    ghost number_of = { failed_limit_number };
+
+    fn number(&self) -> u32 {
         22
     }
 }
@@ -52,12 +52,10 @@ impl fmt::Display for FailedLimit {
     ghost output = { λ e. Some (failed_limit_words e) };
 
     fn fmt<W: fmt::Write>(&self, f: &mut fmt::Formatter<W>) -> fmt::Result {
-        let name = self.name;
-        let requested = self.requested;
-        let allowed = self.allowed;
         write!(
             f,
-            "the limit {name} is {requested}, above its ceiling of {allowed}"
+            "the limit {} is {}, above its ceiling of {}",
+            self.name, self.requested, self.allowed
         )
     }
 }
@@ -75,14 +73,11 @@ pub struct RequiredLimits {
 fn check_ceiling(name: LimitName, requested: u32, allowed: u32) -> Option<FailedLimit>
     ensures { result ≡ above_ceiling name requested allowed }
 {
-    if requested > allowed {
-        return Some(FailedLimit {
-            name,
-            requested: requested as u64,
-            allowed: allowed as u64,
-        });
-    }
-    None
+    (requested > allowed).then_some(FailedLimit {
+        name,
+        requested: u64::from(requested),
+        allowed: u64::from(allowed),
+    })
 }
 
 impl Limits {

@@ -6,53 +6,57 @@ pub mod limits;
 
 ghost use Rattle.std.specs.Prelude.{◌≡◌};
 ghost use Rattle.faults.specs.Faults.{answer};
-ghost use Rattle.device.specs.Lacking.{features_fault, flags_fault, missing_features_number, missing_flags_number};
+ghost use Rattle.device.specs.Lacking.{lacks, features_fault, flags_fault, missing_features_number, missing_flags_number};
 
+use faults::Fault;
 use formats::features::{DownlevelFlags, Features};
+use formats::flags::{Flags, NamedFlags};
 use limits::Limits;
 use std::fmt;
 
-// Features that a style needs and the device lacks.
+// A set of flags that a style needs and that the device does not have whole.
 #[derive(Clone, Copy, PartialEq, Eq, Debug)]
-pub struct MissingFeatures(pub Features);
+pub struct Missing<S>(pub S);
 
-impl MissingFeatures {
-    pub fn number(&self) -> u32
-        ensures { result ≡ missing_features_number self.now }
-    {
+pub type MissingFeatures = Missing<Features>;
+
+pub type MissingDownlevelFlags = Missing<DownlevelFlags>;
+
+impl<S: NamedFlags> fmt::Display for Missing<S> {
+    fn fmt<W: fmt::Write>(&self, f: &mut fmt::Formatter<W>) -> fmt::Result {
+        write!(
+            f,
+            "the device lacks the {} that this needs: {}",
+            S::KIND,
+            self.0
+        )
+    }
+}
+
+impl Fault for Missing<Features> {
+    ghost number_of = { missing_features_number };
+
+    fn number(&self) -> u32 {
         23
     }
 }
 
-impl fmt::Display for MissingFeatures {
-    fn fmt<W: fmt::Write>(&self, f: &mut fmt::Formatter<W>) -> fmt::Result {
-        let features = self.0;
-        write!(
-            f,
-            "the device lacks the feature that this needs: {features}"
-        )
-    }
-}
+impl Fault for Missing<DownlevelFlags> {
+    ghost number_of = { missing_flags_number };
 
-// Downlevel flags that a style needs and the device lacks.
-#[derive(Clone, Copy, PartialEq, Eq, Debug)]
-pub struct MissingDownlevelFlags(pub DownlevelFlags);
-
-impl MissingDownlevelFlags {
-    pub fn number(&self) -> u32
-        ensures { result ≡ missing_flags_number self.now }
-    {
+    fn number(&self) -> u32 {
         24
     }
 }
 
-impl fmt::Display for MissingDownlevelFlags {
-    fn fmt<W: fmt::Write>(&self, f: &mut fmt::Formatter<W>) -> fmt::Result {
-        let flags = self.0;
-        write!(
-            f,
-            "the device lacks the downlevel flag that this needs: {flags}"
-        )
+// Whether what is needed is held; if not, the refusal names all that was asked for.
+fn require<S: Flags>(held: S, needed: S) -> Result<(), Missing<S>>
+    ensures { result ≡ answer (lacks S.Flags.word held needed) tt }
+{
+    if held.contains(needed) {
+        Ok(())
+    } else {
+        Err(Missing(needed))
     }
 }
 
@@ -64,26 +68,19 @@ pub struct Device {
 }
 
 impl Device {
-    // Whether the device has the features; if not, the refusal names all that were asked for.
+    // Whether the device has the features.
     pub fn require_features(&self, features: Features) -> Result<(), MissingFeatures>
         ensures { result ≡ answer (features_fault self.now features) tt }
     {
-        if !self.features.contains(features) {
-            return Err(MissingFeatures(features));
-        }
-        Ok(())
+        require(self.features, features)
     }
 
-    // The same of downlevel flags.
     pub fn require_downlevel_flags(
         &self,
         flags: DownlevelFlags,
     ) -> Result<(), MissingDownlevelFlags>
         ensures { result ≡ answer (flags_fault self.now flags) tt }
     {
-        if !self.downlevel.contains(flags) {
-            return Err(MissingDownlevelFlags(flags));
-        }
-        Ok(())
+        require(self.downlevel, flags)
     }
 }

@@ -1,9 +1,17 @@
-// What every layer's checks share: an ordered list of verdicts, and its first fault.
+// What every layer's checks share: an ordered list of verdicts, its first fault, and a fault's number.
 // The vocabulary is in specs/, and the laws of loops and calls that cite it in proofs/.
 #![tactic(auto)]
 
-ghost use Rattle.std.specs.Prelude.{◌≡◌};
+ghost use Rattle.std.specs.Prelude.{◌≡◌, ℕ};
 ghost use Rattle.faults.specs.Faults.{first_of, FirstIn};
+
+// A fault has a number in the rule book.
+pub trait Fault {
+    ghost number_of: { Self → ℕ };
+
+    fn number(&self) -> u32
+        ensures { result ≡ number_of self.now };
+}
 
 // The first fault of a list of verdicts: the one at some place before which no place has one, or none where no place has one.
 pub fn first_fault<E: Copy>(verdicts: &[Option<E>]) -> Option<E>

@@ -1,7 +1,7 @@
 // What a device can do beyond the least: a set of features and a set of downlevel flags.
 ghost use Rattle.std.specs.Prelude.{refl};
 
-use crate::flags::{Flags, NamedFlags};
+use crate::flags::{Flags, NamedFlags, write_names};
 use std::fmt;
 
 #[derive(Clone, Copy, PartialEq, Eq, Debug)]
@@ -79,14 +79,12 @@ impl Flags for Features {
 }
 
 impl NamedFlags for Features {
-    fn named<'a>() -> &'a [(Features, &'a str)] {
-        &NAMED
-    }
+    const KIND: &'static str = "feature";
 }
 
 impl fmt::Display for Features {
     fn fmt<W: fmt::Write>(&self, f: &mut fmt::Formatter<W>) -> fmt::Result {
-        self.write_names(f)
+        write_names(*self, &NAMED, f)
     }
 }
 
@@ -132,14 +130,12 @@ impl Flags for DownlevelFlags {
 }
 
 impl NamedFlags for DownlevelFlags {
-    fn named<'a>() -> &'a [(DownlevelFlags, &'a str)] {
-        &NAMED_FLAGS
-    }
+    const KIND: &'static str = "downlevel flag";
 }
 
 impl fmt::Display for DownlevelFlags {
     fn fmt<W: fmt::Write>(&self, f: &mut fmt::Formatter<W>) -> fmt::Result {
-        self.write_names(f)
+        write_names(*self, &NAMED_FLAGS, f)
     }
 }
 

@@ -42,22 +42,24 @@ pub trait Flags: Copy {
     ghost word_alone: { (s : Self) → of_word (word s) ≡ s };
 }
 
-// Sets whose flags have names.
-pub trait NamedFlags: Flags {
-    // The flags that have a name, in the order of their bits.
-    fn named<'a>() -> &'a [(Self, &'a str)];
+// Sets whose flags have names, and are printed by them.
+pub trait NamedFlags: Flags + fmt::Display {
+    // What a flag of the set is called.
+    const KIND: &'static str;
+}
 
-    // The names of the flags, with a bar between two.
-    fn write_names<W: fmt::Write>(self, f: &mut fmt::Formatter<W>) -> fmt::Result {
-        let held = Self::named()
-            .iter()
-            .filter(|(flag, _)| self.contains(*flag));
-        for (i, (_, name)) in held.enumerate() {
-            if i > 0 {
-                f.write_str(" | ")?;
-            }
-            f.write_str(name)?;
+// The names of the flags of a set that are in the list, with a bar between two.
+pub(crate) fn write_names<S: Flags, W: fmt::Write>(
+    flags: S,
+    named: &[(S, &str)],
+    f: &mut fmt::Formatter<W>,
+) -> fmt::Result {
+    let held = named.iter().filter(|(flag, _)| flags.contains(*flag));
+    for (i, (_, name)) in held.enumerate() {
+        if i > 0 {
+            f.write_str(" | ")?;
         }
-        Ok(())
+        f.write_str(name)?;
     }
+    Ok(())
 }
