@@ -1,60 +1,44 @@
 -- Two targets that write alike, by the places of their factors and operations, are those with one write mask and one blend state.
-use Rattle.std.proofs.Common.{◌≡◌, ℕ, Bool, eqb, List, [], ◌∷◌, get_or, Some, None, Decides, Option, sym, refl, ap, ◌∙◌}
+use Rattle.std.proofs.Common.{◌≡◌, ℕ, Bool, eqb, Some, None, Decides, Option, refl, ap, rules}
+use Rattle.std.specs.Option.{option_eq}
 use Rattle.std.proofs.lemmas.Bool.Decides.{Decides-and, Decides-at, Decides-eqb, Decides-like}
-use Rattle.descriptor.specs.Blend.{factor_place, operation_place, same_factor, same_operation, same_component, same_state, same_blend, writes_like, Alike}
+use Rattle.descriptor.specs.Blend.{same_factor, same_operation, same_component, same_state, same_blend, writes_like, Alike}
 use Rattle.descriptor.specs.declared.blend.BlendFactor.{BlendFactor}
-use Rattle.descriptor.specs.declared.blend.BlendFactor.TheVariants.{Zero, One, Src, OneMinusSrc, SrcAlpha, OneMinusSrcAlpha, Dst, OneMinusDst, DstAlpha, OneMinusDstAlpha, SrcAlphaSaturated, Constant, OneMinusConstant, Src1, OneMinusSrc1, Src1Alpha, OneMinusSrc1Alpha}
 use Rattle.descriptor.specs.declared.blend.BlendOperation.{BlendOperation}
-use Rattle.descriptor.specs.declared.blend.BlendOperation.TheVariants.{Add, Subtract, ReverseSubtract, Min, Max}
 use Rattle.descriptor.specs.declared.blend.BlendComponent.{BlendComponent}
 use Rattle.descriptor.specs.declared.blend.BlendState.{BlendState}
 use Rattle.descriptor.specs.declared.blend.ColorTargetState.{ColorTargetState}
 use Rattle.descriptor.specs.declared.blend.ColorWrites.{ColorWrites}
+use Rattle.descriptor.specs.contracts.blend.BlendFactorPartialEq.TheImpl as Factor
+use Rattle.descriptor.specs.contracts.blend.BlendOperationPartialEq.TheImpl as Operation
+use Rattle.descriptor.specs.contracts.blend.BlendComponentPartialEq.TheImpl as Component
+use Rattle.descriptor.specs.contracts.blend.BlendStatePartialEq.TheImpl as State
 
--- what has its place in a list is known by its place
-by_place : {A : Type 0} (place : A → ℕ) (list : List A) (d : A) → ((a : A) → get_or list (place a) d ≡ a) → (a b : A) → Decides (eqb (place a) (place b)) (a ≡ b)
-by_place place list d back a b =
-    Decides-like (eqb (place a) (place b)) (λ e. sym (back a) ∙ ap (λ k. get_or list k d) e ∙ back b) (ap place) (Decides-eqb (place a) (place b))
+factor : (a b : BlendFactor) → Decides (same_factor a b) (a ≡ b)
+factor a b = search rules
 
-factors : List BlendFactor
-factors = Zero ∷ One ∷ Src ∷ OneMinusSrc ∷ SrcAlpha ∷ OneMinusSrcAlpha ∷ Dst ∷ OneMinusDst ∷ DstAlpha ∷ OneMinusDstAlpha ∷ SrcAlphaSaturated ∷ Constant ∷ OneMinusConstant ∷ Src1 ∷ OneMinusSrc1 ∷ Src1Alpha ∷ OneMinusSrc1Alpha ∷ []
+operation : (a b : BlendOperation) → Decides (same_operation a b) (a ≡ b)
+operation a b = search rules
 
-factor_back : (f : BlendFactor) → get_or factors (factor_place f) Zero ≡ f
-unfolding factors
-factor_back Zero = refl
-factor_back One = refl
-factor_back Src = refl
-factor_back OneMinusSrc = refl
-factor_back SrcAlpha = refl
-factor_back OneMinusSrcAlpha = refl
-factor_back Dst = refl
-factor_back OneMinusDst = refl
-factor_back DstAlpha = refl
-factor_back OneMinusDstAlpha = refl
-factor_back SrcAlphaSaturated = refl
-factor_back Constant = refl
-factor_back OneMinusConstant = refl
-factor_back Src1 = refl
-factor_back OneMinusSrc1 = refl
-factor_back Src1Alpha = refl
-factor_back OneMinusSrc1Alpha = refl
+-- the derived equality is the sameness by places
+derived_factor : (a b : BlendFactor) → Factor.eq-value.it a b ≡ same_factor a b
+derived_factor a b = search rules
 
-factor : (a b : BlendFactor) → Decides (eqb (factor_place a) (factor_place b)) (a ≡ b)
-factor = by_place factor_place factors Zero factor_back
+derived_operation : (a b : BlendOperation) → Operation.eq-value.it a b ≡ same_operation a b
+derived_operation a b = search rules
 
-operations : List BlendOperation
-operations = Add ∷ Subtract ∷ ReverseSubtract ∷ Min ∷ Max ∷ []
+derived_component : (a b : BlendComponent) → Component.eq-value.it a b ≡ same_component a b
+derived_component a b =
+    rw (derived_factor a.src_factor b.src_factor, derived_factor a.dst_factor b.dst_factor, derived_operation a.operation b.operation) refl
 
-operation_back : (o : BlendOperation) → get_or operations (operation_place o) Add ≡ o
-unfolding operations
-operation_back Add = refl
-operation_back Subtract = refl
-operation_back ReverseSubtract = refl
-operation_back Min = refl
-operation_back Max = refl
+derived_state : (a b : BlendState) → State.eq-value.it a b ≡ same_state a b
+derived_state a b = rw (derived_component a.color b.color, derived_component a.alpha b.alpha) refl
 
-operation : (a b : BlendOperation) → Decides (eqb (operation_place a) (operation_place b)) (a ≡ b)
-operation = by_place operation_place operations Add operation_back
+pub derived_blend : (a b : Option BlendState) → option_eq State.eq-value.it a b ≡ same_blend a b
+derived_blend None None = refl
+derived_blend None (Some b) = refl
+derived_blend (Some a) None = refl
+derived_blend (Some a) (Some b) = derived_state a b
 
 -- a record is known by its fields
 component_of : (s t d e : BlendFactor) (o p : BlendOperation) → s ≡ t → d ≡ e → o ≡ p → ◌≡◌ {A = BlendComponent} (record { src_factor = s; dst_factor = d; operation = o }) (record { src_factor = t; dst_factor = e; operation = p })

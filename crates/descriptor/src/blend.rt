@@ -1,12 +1,11 @@
 // A color target of a style: its format, which channels are written, and how a color is blended with the one that is there.
-ghost use Rattle.std.specs.Prelude.{◌≡◌, Decides};
-ghost use Rattle.descriptor.specs.Blend.{factor_place, operation_place, same_factor, same_operation, same_component, same_state, same_blend, second_source, is_min_max, is_one, is_constant, uses_constant, reads_second, unknown_bits, writes_like, Alike};
-ghost use Rattle.std.specs.Cmp.{partial_equiv_from_equiv};
-ghost use Rattle.descriptor.specs.BlendLaws.{same_factor_equiv, same_operation_equiv, same_component_equiv, same_state_equiv};
+ghost use Rattle.std.specs.Prelude.{◌≡◌, Decides, refl};
+ghost use Rattle.descriptor.specs.Blend.{second_source, is_min_max, is_one, is_constant, uses_constant, reads_second, unknown_bits, writes_like, Alike};
 
+use formats::flags::Flags;
 use formats::texture::TextureFormat;
 
-#[derive(Clone, Copy, Debug)]
+#[derive(Clone, Copy, PartialEq, Eq, Debug)]
 pub enum BlendFactor {
     Zero,
     One,
@@ -28,61 +27,34 @@ pub enum BlendFactor {
 }
 
 impl BlendFactor {
-    fn place(self) -> usize
-        ensures { result ≡ factor_place self }
-    {
-        self as usize
-    }
-
     // Whether it reads the second color that a shader gives.
     pub fn ref_second_blend_source(self) -> bool
         ensures { result ≡ second_source self }
     {
-        match self {
+        matches!(
+            self,
             BlendFactor::Src1
-            | BlendFactor::OneMinusSrc1
-            | BlendFactor::Src1Alpha
-            | BlendFactor::OneMinusSrc1Alpha => true,
-            _ => false,
-        }
+                | BlendFactor::OneMinusSrc1
+                | BlendFactor::Src1Alpha
+                | BlendFactor::OneMinusSrc1Alpha
+        )
     }
 
     pub fn is_one(self) -> bool
         ensures { result ≡ is_one self }
     {
-        match self {
-            BlendFactor::One => true,
-            _ => false,
-        }
+        self == BlendFactor::One
     }
 
     // Whether it is the pass's blend constant, or what is left of one.
     fn is_constant(self) -> bool
         ensures { result ≡ is_constant self }
     {
-        match self {
-            BlendFactor::Constant | BlendFactor::OneMinusConstant => true,
-            _ => false,
-        }
+        matches!(self, BlendFactor::Constant | BlendFactor::OneMinusConstant)
     }
 }
 
-// Equality is written out here and below, so that callers know it by the places of factors and operations.
-impl PartialEq for BlendFactor {
-    ghost eq = { λ a b. same_factor a b };
-
-    ghost laws = { partial_equiv_from_equiv same_factor_equiv };
-
-    fn eq(&self, other: &BlendFactor) -> bool {
-        self.place() == other.place()
-    }
-}
-
-impl Eq for BlendFactor {
-    ghost laws = { same_factor_equiv };
-}
-
-#[derive(Clone, Copy, Debug)]
+#[derive(Clone, Copy, PartialEq, Eq, Debug)]
 pub enum BlendOperation {
     Add,
     Subtract,
@@ -92,37 +64,14 @@ pub enum BlendOperation {
 }
 
 impl BlendOperation {
-    fn place(self) -> usize
-        ensures { result ≡ operation_place self }
-    {
-        self as usize
-    }
-
     pub fn is_min_max(self) -> bool
         ensures { result ≡ is_min_max self }
     {
-        match self {
-            BlendOperation::Min | BlendOperation::Max => true,
-            _ => false,
-        }
+        matches!(self, BlendOperation::Min | BlendOperation::Max)
     }
 }
 
-impl PartialEq for BlendOperation {
-    ghost eq = { λ a b. same_operation a b };
-
-    ghost laws = { partial_equiv_from_equiv same_operation_equiv };
-
-    fn eq(&self, other: &BlendOperation) -> bool {
-        self.place() == other.place()
-    }
-}
-
-impl Eq for BlendOperation {
-    ghost laws = { same_operation_equiv };
-}
-
-#[derive(Clone, Copy, Debug)]
+#[derive(Clone, Copy, PartialEq, Eq, Debug)]
 pub struct BlendComponent {
     pub src_factor: BlendFactor,
     pub dst_factor: BlendFactor,
@@ -145,40 +94,10 @@ impl BlendComponent {
     }
 }
 
-impl PartialEq for BlendComponent {
-    ghost eq = { λ a b. same_component a b };
-
-    ghost laws = { partial_equiv_from_equiv same_component_equiv };
-
-    fn eq(&self, other: &BlendComponent) -> bool {
-        self.src_factor == other.src_factor
-            && self.dst_factor == other.dst_factor
-            && self.operation == other.operation
-    }
-}
-
-impl Eq for BlendComponent {
-    ghost laws = { same_component_equiv };
-}
-
-#[derive(Clone, Copy, Debug)]
+#[derive(Clone, Copy, PartialEq, Eq, Debug)]
 pub struct BlendState {
     pub color: BlendComponent,
     pub alpha: BlendComponent,
-}
-
-impl PartialEq for BlendState {
-    ghost eq = { λ a b. same_state a b };
-
-    ghost laws = { partial_equiv_from_equiv same_state_equiv };
-
-    fn eq(&self, other: &BlendState) -> bool {
-        self.color == other.color && self.alpha == other.alpha
-    }
-}
-
-impl Eq for BlendState {
-    ghost laws = { same_state_equiv };
 }
 
 // The channels that a target writes, a bit each.
@@ -198,19 +117,6 @@ impl ColorWrites {
 
     pub const ALL: ColorWrites = ColorWrites { bits: 15 };
 
-    // Every bit is kept, also one that has no name.
-    pub fn from_bits_retain(bits: u32) -> ColorWrites
-        ensures { result.bits ≡ bits }
-    {
-        ColorWrites { bits }
-    }
-
-    pub fn bits(self) -> u32
-        ensures { result ≡ self.bits }
-    {
-        self.bits
-    }
-
     // Whether a bit is set that is no channel's.
     pub fn contains_unknown_bits(self) -> bool
         ensures { result ≡ unknown_bits self }
@@ -219,7 +125,25 @@ impl ColorWrites {
     }
 }
 
-#[derive(Clone, Copy)]
+impl Flags for ColorWrites {
+    ghost word = { λ s. s.bits };
+
+    ghost of_word = { λ n. record { bits = n } };
+
+    ghost word_kept = { λ n. refl };
+
+    ghost word_alone = { λ s. refl };
+
+    fn bits(self) -> u32 {
+        self.bits
+    }
+
+    fn from_bits_retain(bits: u32) -> ColorWrites {
+        ColorWrites { bits }
+    }
+}
+
+#[derive(Clone, Copy, PartialEq, Eq, Debug)]
 pub struct ColorTargetState {
     pub format: TextureFormat,
     pub blend: Option<BlendState>,
@@ -227,21 +151,11 @@ pub struct ColorTargetState {
 }
 
 impl ColorTargetState {
-    fn blends_like(&self, other: &ColorTargetState) -> bool
-        ensures { result ≡ same_blend self.now.blend other.now.blend }
-    {
-        match (self.blend, other.blend) {
-            (Some(a), Some(b)) => a == b,
-            (None, None) => true,
-            _ => false,
-        }
-    }
-
     // Whether the two write the same channels, blended in the same way.
     pub fn writes_like(&self, other: &ColorTargetState) -> bool
         ensures value { result ≡ writes_like self.now other.now }
         ensures exactly { Decides result (Alike self.now other.now) }
     {
-        self.write_mask.bits == other.write_mask.bits && self.blends_like(other)
+        self.write_mask == other.write_mask && self.blend == other.blend
     }
 }

@@ -21,20 +21,14 @@ impl CompareFunction {
     fn is_always(self) -> bool
         ensures { result ≡ is_always self }
     {
-        match self {
-            CompareFunction::Always => true,
-            _ => false,
-        }
+        self == CompareFunction::Always
     }
 
     // Whether the answer depends on the two values at all.
     fn needs_ref_value(self) -> bool
         ensures { result ≡ compares_by_value self }
     {
-        match self {
-            CompareFunction::Never | CompareFunction::Always => false,
-            _ => true,
-        }
+        !matches!(self, CompareFunction::Never | CompareFunction::Always)
     }
 }
 
@@ -54,24 +48,18 @@ impl StencilOperation {
     pub fn is_keep(self) -> bool
         ensures { result ≡ is_keep self }
     {
-        match self {
-            StencilOperation::Keep => true,
-            _ => false,
-        }
+        self == StencilOperation::Keep
     }
 
     fn is_replace(self) -> bool
         ensures { result ≡ is_replace self }
     {
-        match self {
-            StencilOperation::Replace => true,
-            _ => false,
-        }
+        self == StencilOperation::Replace
     }
 }
 
 // What is done with the stencil of a pixel under one face of a primitive.
-#[derive(Clone, Copy)]
+#[derive(Clone, Copy, PartialEq, Eq, Debug)]
 pub struct StencilFaceState {
     pub compare: CompareFunction,
     pub fail_op: StencilOperation,
@@ -112,7 +100,7 @@ impl StencilFaceState {
     }
 }
 
-#[derive(Clone, Copy)]
+#[derive(Clone, Copy, PartialEq, Eq, Debug)]
 pub struct StencilState {
     pub front: StencilFaceState,
     pub back: StencilFaceState,
@@ -194,21 +182,16 @@ impl DepthStencilState {
     pub fn is_depth_read_only(&self) -> bool
         ensures { result ≡ not (depth_written self.now) }
     {
-        match self.depth_write_enabled {
-            Some(write) => !write,
-            None => true,
-        }
+        self.depth_write_enabled != Some(true)
     }
 
     // Whether depths are written, or compared by other than Always.
     pub fn is_depth_enabled(&self) -> bool
         ensures { result ≡ depth_enabled self.now }
     {
-        let compared = match self.depth_compare {
-            Some(compare) => !compare.is_always(),
-            None => false,
-        };
-        compared || !self.is_depth_read_only()
+        self.depth_compare
+            .is_some_and(|compare| !compare.is_always())
+            || !self.is_depth_read_only()
     }
 
     // Whether the stencil is not written, a face that is culled left aside.

@@ -16,19 +16,19 @@ impl PrimitiveTopology {
     pub fn is_strip(self) -> bool
         ensures { result ≡ is_strip self }
     {
-        match self {
-            PrimitiveTopology::LineStrip | PrimitiveTopology::TriangleStrip => true,
-            _ => false,
-        }
+        matches!(
+            self,
+            PrimitiveTopology::LineStrip | PrimitiveTopology::TriangleStrip
+        )
     }
 
     pub fn is_triangles(self) -> bool
         ensures { result ≡ is_triangles self }
     {
-        match self {
-            PrimitiveTopology::TriangleList | PrimitiveTopology::TriangleStrip => true,
-            _ => false,
-        }
+        matches!(
+            self,
+            PrimitiveTopology::TriangleList | PrimitiveTopology::TriangleStrip
+        )
     }
 }
 
@@ -58,7 +58,7 @@ pub enum PolygonMode {
     Point,
 }
 
-#[derive(Clone, Copy)]
+#[derive(Clone, Copy, PartialEq, Eq, Debug)]
 pub struct PrimitiveState {
     pub topology: PrimitiveTopology,
     // The indices of a strip, of which the greatest ends it.

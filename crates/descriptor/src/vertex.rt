@@ -22,7 +22,7 @@ impl fmt::Display for VertexStepMode {
     }
 }
 
-#[derive(Clone, Copy)]
+#[derive(Clone, Copy, PartialEq, Eq, Debug)]
 pub struct VertexAttribute {
     pub format: VertexFormat,
     pub offset: u64,
@@ -39,7 +39,7 @@ impl VertexAttribute {
 }
 
 // A slot that is not empty. Its attributes are `count` of the list, from place `first` on.
-#[derive(Clone, Copy)]
+#[derive(Clone, Copy, PartialEq, Eq, Debug)]
 pub struct VertexBufferLayout {
     pub array_stride: u64,
     pub step_mode: VertexStepMode,
@@ -52,7 +52,7 @@ impl VertexBufferLayout {
     pub fn attributes_end(&self) -> u64
         ensures { result ≡ part_end self.now }
     {
-        self.first as u64 + self.count as u64
+        u64::from(self.first) + u64::from(self.count)
     }
 }
 
