@@ -11,7 +11,7 @@ use formats::texture::TextureFormat;
 pub fn check_color_attachment_count(device: &Device, given: u64) -> Result<(), ColorAttachmentError>
     ensures { result ≡ answer (count_verdict device.now given) tt }
 {
-    let limit = device.limits.max_color_attachments as u64;
+    let limit = u64::from(device.limits.max_color_attachments);
     if given > limit {
         return Err(ColorAttachmentError::TooMany { given, limit });
     }
@@ -44,8 +44,8 @@ fn total_cost(colors: &[Option<TextureFormat>]) -> Result<u32, ColorAttachmentEr
     ensures { result ≡ answer (first_of (cost_verdicts 0 colors.now)) (bytes_of colors.now) }
 {
     let mut total = 0;
-    for i in 0..colors.len() {
-        total = add_cost(total, i as u64, colors[i])?;
+    for (i, color) in colors.iter().enumerate() {
+        total = add_cost(total, i as u64, *color)?;
     }
     Ok(total)
 }
@@ -62,8 +62,8 @@ pub fn validate_color_attachment_bytes_per_sample(
     let limit = device.limits.max_color_attachment_bytes_per_sample;
     if total > limit {
         return Err(ColorAttachmentError::TooManyBytesPerSample {
-            total: total as u64,
-            limit: limit as u64,
+            total: u64::from(total),
+            limit: u64::from(limit),
         });
     }
     Ok(total)

@@ -3,20 +3,20 @@ ghost use Rattle.std.specs.Prelude.{◌≡◌};
 ghost use Rattle.attachments.specs.Numbers.{number_of};
 ghost use Rattle.attachments.specs.Words.{words};
 
+use faults::Fault;
 use std::fmt;
 
-#[derive(Clone, Copy)]
+#[derive(Clone, Copy, PartialEq, Eq, Debug)]
 pub enum ColorAttachmentError {
     TooMany { given: u64, limit: u64 },
     NoByteCost { index: u64 },
     TooManyBytesPerSample { total: u64, limit: u64 },
 }
 
-impl ColorAttachmentError {
-    // The fault's number in the rule book.
-    pub fn number(&self) -> u32
-        ensures { result ≡ number_of self.now }
-    {
+impl Fault for ColorAttachmentError {
+    ghost number_of = { number_of };
+
+    fn number(&self) -> u32 {
         match self {
             ColorAttachmentError::TooMany { .. } => 2,
             ColorAttachmentError::NoByteCost { .. } => 15,

@@ -7,14 +7,14 @@ pub mod error;
 use formats::texture::TextureFormat;
 
 // The formats of the attachments. A place past the last target is empty.
-#[derive(Clone, Copy)]
+#[derive(Clone, Copy, PartialEq, Eq, Debug)]
 pub struct AttachmentData {
     pub colors: [Option<TextureFormat>; 8],
     pub depth_stencil: Option<TextureFormat>,
 }
 
 // What a pipeline and a pass have to agree in.
-#[derive(Clone, Copy)]
+#[derive(Clone, Copy, PartialEq, Eq, Debug)]
 pub struct RenderPassContext {
     pub attachments: AttachmentData,
     pub sample_count: u32,

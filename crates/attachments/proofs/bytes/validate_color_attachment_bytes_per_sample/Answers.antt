@@ -18,7 +18,7 @@ returns-then-total-limit c =
     let d = c.args.device.now in
     let colors = c.args.colors.now in
     record {
-      judged = bytes_judged d colors _ (costs_pass d colors _ e _ (total_refuses d colors _ (value_from_ok _ _ _ e) c.if-total-limit.true));
+      judged = rw (c.from.ensures, c.from-then-total-limit.ensures) (bytes_judged d colors _ (costs_pass d colors _ e _ (total_refuses d colors _ (value_from_ok _ _ _ e) c.if-total-limit.true)));
       rounding = rounding;
     }
 
