@@ -1,5 +1,5 @@
 // How many color attachments there may be, and how many bytes they may take for one sample.
-ghost use Rattle.std.specs.Prelude.{◌≡◌, ◌+◌, ◌≤◌, length, IfOk};
+ghost use Rattle.std.specs.Prelude.{◌≡◌, ◌+◌, ◌≤◌, IfOk};
 ghost use Rattle.faults.specs.Faults.{answer, first_of};
 ghost use Rattle.attachments.specs.Bytes.{count_verdict, cost_verdict, cost_verdicts, bytes_after, bytes_of, BytesJudged, Rounding};
 
@@ -39,8 +39,7 @@ fn add_cost(
 }
 
 // The bytes of all of them.
-fn total_cost(colors: &[Option<TextureFormat>]) -> Result<u32, ColorAttachmentError>
-    requires { length colors.now ≤ 8 }
+fn total_cost(colors: &[Option<TextureFormat>; 8]) -> Result<u32, ColorAttachmentError>
     ensures { result ≡ answer (first_of (cost_verdicts 0 colors.now)) (bytes_of colors.now) }
 {
     let mut total = 0;
