@@ -1,15 +1,14 @@
 -- The loop over the attachments, and what the verdicts on their bytes mean.
-use Rattle.std.proofs.Common.{◌≡◌, ℕ, ◌+◌, ◌<◌, ◌≤◌, true, false, ltb, List, [], ◌∷◌, Some, None, Ok, Err, Option, Result, sym, refl, ap, ◌∙◌, arith}
+use Rattle.std.proofs.Common.{◌≡◌, ℕ, ◌+◌, false, List, [], ◌∷◌, Some, None, Option, Result, sym, refl, ap, ◌∙◌}
 use Rattle.std.specs.List.{ContainsAt, AllByRecursion}
 use Rattle.std.proofs.ByRecursion.{all-has, all_has_itself, All-weaker}
-use Rattle.std.proofs.lemmas.Bool.{not-false, not_from_true, ltb-false, lt-ltb, le-ltb}
+use Rattle.std.proofs.lemmas.Bool.{not-false, not_from_true, ltb-false, le-ltb}
 use Rattle.faults.specs.Faults.{or_else, first_of, answer, Judged}
-use Rattle.faults.proofs.Order.{at_first, at_next, or_none, both_none, none_both, not_if, if_not, judged}
+use Rattle.faults.proofs.Order.{or_none, both_none, none_both, not_if, if_not, judged}
 use Rattle.formats.specs.declared.texture.TextureFormat.{TextureFormat}
 use Rattle.device.specs.declared.Device.{Device}
 use Rattle.attachments.specs.Bytes.{unpriced, cost_verdict, cost_verdicts, bytes_from, bytes_of, total_verdict, bytes_verdicts, BytesLawful}
 use Rattle.attachments.specs.declared.error.ColorAttachmentError.{ColorAttachmentError}
-use Rattle.attachments.specs.declared.error.ColorAttachmentError.TheVariants.{TooManyBytesPerSample}
 
 -- the attachments from an index on, beside the bytes so far
 abbrev pub costs_answer : ℕ → ℕ → List (Option TextureFormat) → Result ℕ ColorAttachmentError
@@ -56,27 +55,3 @@ module _ (d : Device) (colors : List (Option TextureFormat)) where
   -- all that the judging answers, from its value
   pub bytes_judged : (r : Result ℕ ColorAttachmentError) → r ≡ answer (first_of (bytes_verdicts d colors)) (bytes_of colors) → Judged (bytes_verdicts d colors) (bytes_of colors) (BytesLawful d colors) r
   bytes_judged = judged (bytes_verdicts d colors) (bytes_of colors) (BytesLawful d colors) lawful passes
-
-  pub costs_refuse : (e : ColorAttachmentError) → Err e ≡ answer (first_of (cost_verdicts 0 colors)) (bytes_of colors) → Err e ≡ answer (first_of (bytes_verdicts d colors)) (bytes_of colors)
-  costs_refuse e h = at_first (cost_verdicts 0 colors) (total_verdict d colors ∷ []) (bytes_of colors) (bytes_of colors) e h
-
-  pub costs_pass : (n : ℕ) → Ok n ≡ answer (first_of (cost_verdicts 0 colors)) (bytes_of colors) → (r : Result ℕ ColorAttachmentError) → r ≡ answer (total_verdict d colors) (bytes_of colors) → r ≡ answer (first_of (bytes_verdicts d colors)) (bytes_of colors)
-  costs_pass n h r k =
-      k
-      ∙ sym
-      (at_next (cost_verdicts 0 colors) (total_verdict d colors ∷ []) (bytes_of colors) (bytes_of colors) n h
-      ∙ ap (λ o. answer o (bytes_of colors)) (or_none (total_verdict d colors)))
-
-  -- the total beside the limit
-  abbrev limit : ℕ
-  limit = d.limits.max_color_attachment_bytes_per_sample
-
-  pub total_refuses : (n : ℕ) → n ≡ bytes_of colors → limit < n → Err (TooManyBytesPerSample n limit) ≡ answer (total_verdict d colors) (bytes_of colors)
-  total_refuses n v h =
-      let t : ltb limit (bytes_of colors) ≡ true = lt-ltb limit (bytes_of colors) (omega arith) in
-      rw (v, t) refl
-
-  pub total_passes : (n : ℕ) → n ≡ bytes_of colors → n ≤ limit → Ok n ≡ answer (total_verdict d colors) (bytes_of colors)
-  total_passes n v h =
-      let t : ltb limit (bytes_of colors) ≡ false = le-ltb limit (bytes_of colors) (omega arith) in
-      rw (v, t) refl
