@@ -1,7 +1,7 @@
 -- One slot: its three groups of verdicts, one call after the other.
-use Rattle.std.proofs.Common.{◌≡◌, ℕ, ◌+◌, ◌<◌, Bool, List, [], ◌∷◌, ◌++◌, length, Some, None, Ok, Err, Option, Result, sym, refl, ap, ◌∙◌, arith}
-use Rattle.std.specs.List.{AllByRecursion}
-use Rattle.std.proofs.ByRecursion.{All-weaker}
+use Rattle.std.proofs.Common.{◌≡◌, ℕ, ◌+◌, ◌<◌, ◌≤◌, Bool, List, [], ◌∷◌, ◌++◌, length, get_or, Some, None, Ok, Err, Option, Result, sym, refl, ap, ◌∙◌, arith}
+use Rattle.std.specs.List.{AllByRecursion, ContainsAt}
+use Rattle.std.proofs.ByRecursion.{All-weaker, has_get_or}
 use Rattle.std.proofs.lemmas.Bool.{leb-false, ltb-false, le-ltb}
 use Rattle.faults.specs.Faults.{or_else, first_of, answer}
 use Rattle.faults.proofs.Order.{at_first, at_next, value_from_ok, none_from_ok, same_refusal, same_acceptance, all_none, none_all, each_none, not_if, if_not}
@@ -10,8 +10,9 @@ use Rattle.descriptor.specs.declared.vertex.VertexAttribute.{VertexAttribute}
 use Rattle.descriptor.specs.declared.vertex.VertexBufferLayout.{VertexBufferLayout}
 use Rattle.vertex.specs.declared.error.VertexStateError.{VertexStateError}
 use Rattle.vertex.specs.declared.step.VertexStep.{VertexStep}
-use Rattle.vertex.specs.Order.{attribute_verdicts, attributes_verdicts, claims_verdicts, stride_verdicts, part_verdicts, part_step, range_verdict, ranges_verdicts, reach, last_stride_of}
+use Rattle.vertex.specs.Order.{attribute_verdicts, attributes_verdicts, claims_verdicts, stride_verdicts, part_verdicts, part_step, range_verdict, ranges_verdicts, buffers_verdict, reach, last_stride_of}
 use Rattle.vertex.specs.Claims.{InList}
+use Rattle.vertex.specs.Rules.{InRange}
 use Rattle.vertex.proofs.Loops.{passes}
 
 -- the locations of attributes that pass the first round are below the limit
@@ -73,3 +74,18 @@ pub none_stay : (attributes : List VertexAttribute) (index : ℕ) (slots : List 
 none_stay attributes index [] h = refl
 none_stay attributes index (o ∷ rest) h =
     ap (λ v. or_else v (first_of (ranges_verdicts (length attributes) (index + 1) rest))) (none_stays attributes index o h.0) ∙ none_stay attributes (index + 1) rest h.1
+
+-- the i-th slot of those whose parts all stay in the list
+in_list : (attributes : List VertexAttribute) (slots : List (Option VertexBufferLayout)) (o : Option VertexBufferLayout) → InRange slots attributes → ContainsAt slots o → InList attributes o
+in_list attributes slots None h w = tt
+in_list attributes slots (Some s) h w = h s w
+
+pub slot_stays : (slots : List (Option VertexBufferLayout)) (attributes : List VertexAttribute) → InRange slots attributes → (i : ℕ) → i < length slots → InList attributes (get_or slots i None)
+slot_stays slots attributes h i l = in_list attributes slots (get_or slots i None) h (has_get_or slots i None l)
+
+-- slots that pass the limit of their number are at most 16
+pub few_slots : (d : Device) (slots : List (Option VertexBufferLayout)) (y : Unit {0}) → Ok y ≡ passes (buffers_verdict d slots) → length slots ≤ 16
+few_slots d slots y h =
+    let l = ltb-false _ _ (not_if _ _ (none_from_ok (buffers_verdict d slots) tt y h)) in
+    let c = d.limits.buffers in
+    omega arith

@@ -7,7 +7,7 @@ ghost use Rattle.vertex.specs.declared.error.VertexStateError.TheVariants.{Missi
 use device::MissingFeatures;
 use std::fmt;
 
-#[derive(Clone, Copy)]
+#[derive(Clone, Copy, PartialEq, Eq, Debug)]
 pub enum VertexStateError {
     AttributeRange {
         index: u64,

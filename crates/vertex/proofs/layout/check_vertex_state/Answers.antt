@@ -1,6 +1,8 @@
 -- Each way out gives the value of the whole; the rest of what is promised follows from that.
+use Rattle.std.proofs.Common.{refl}
 use Rattle.std.proofs.lemmas.Result.{err_from_is_err_and}
 use Rattle.vertex.proofs.Kept.{answers}
+use Rattle.vertex.proofs.Slots.{few_slots}
 use Rattle.vertex.proofs.Whole.{ranges_refuse, buffers_refuse, slots_refuse, total_refuses, all_pass}
 use Rattle.vertex.proofs.layout.check_vertex_state.Goals as goal
 
@@ -9,6 +11,13 @@ returns-in_err-check_attribute_ranges c =
     let p = err_from_is_err_and c.from_residual.result c.from_residual.ensures.1 in
     let w = answers c.args.device.now c.args.vertex.now.buffers.now c.args.vertex.now.attributes.now _ (rw (p.1, p.2) (ranges_refuse c.args.device.now c.args.vertex.now.buffers.now c.args.vertex.now.attributes.now _ c.in_err-check_attribute_ranges.ensures.value)) in
     record { judged = w.0; kept = w.1 }
+
+pub invariant_of-bounded : goal.invariant_of-bounded
+invariant_of-bounded c =
+    record {
+      few = few_slots c.args.device.now c.args.vertex.now.buffers.now _ c.in_ok-check_buffer_count.ensures;
+      ranged = c.in_ok-check_attribute_ranges.ensures.lawful refl;
+    }
 
 pub returns-in_err-check_buffer_count : goal.returns-in_err-check_buffer_count
 returns-in_err-check_buffer_count c =

@@ -2,7 +2,7 @@ use Rattle.std.proofs.Common.{sym, ap, ◌∙◌}
 use Rattle.std.proofs.lemmas.Result.{err_from_is_err_and, IfOk-from_err}
 use Rattle.faults.specs.Faults.{answer}
 use Rattle.faults.proofs.Order.{or_first, or_next, or_none}
-use Rattle.vertex.proofs.layout.claim_attribute.Goals as goal
+use Rattle.vertex.proofs.locations.Locations.claim_attribute.Goals as goal
 
 pub returns-in_err-check_far_offset : goal.returns-in_err-check_far_offset
 returns-in_err-check_far_offset c =
