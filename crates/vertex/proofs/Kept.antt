@@ -121,8 +121,9 @@ module _ (d : Device) (slots : List (Option VertexBufferLayout)) (attributes : L
   keeps_steps r h = rw h (kept_as (first_of (vertex_verdicts d slots attributes)) refl)
 
   -- all that the judging answers
-  pub answers : (r : Result (List (Option VertexStep)) VertexStateError) → r ≡ answer (first_of (vertex_verdicts d slots attributes)) (steps_of slots attributes) → Judged (vertex_verdicts d slots attributes) (steps_of slots attributes) (Lawful d slots attributes) r × Accepts slots attributes r
-  answers r h = (
-    judged (vertex_verdicts d slots attributes) (steps_of slots attributes) (Lawful d slots attributes) (lawful d slots attributes) (passes_lawful d slots attributes) r h,
-    keeps_steps r h,
-  )
+  pub answers : (r : Result (List (Option VertexStep)) VertexStateError) → r ≡ answer (first_of (vertex_verdicts d slots attributes)) (steps_of slots attributes) → record { judged : Judged (vertex_verdicts d slots attributes) (steps_of slots attributes) (Lawful d slots attributes) r; kept : Accepts slots attributes r }
+  answers r h =
+      record {
+        judged = judged (vertex_verdicts d slots attributes) (steps_of slots attributes) (Lawful d slots attributes) (lawful d slots attributes) (passes_lawful d slots attributes) r h;
+        kept = keeps_steps r h;
+      }

@@ -1,39 +1,28 @@
 -- What is left of a loop's answer, from its state and the rest of its list, and one turn of it.
-use Rattle.std.proofs.Common.{◌≡◌, ℕ, ◌+◌, ◌<◌, max, Bool, List, length, get_or, drop, Ok, Err, Option, Result, sym, refl, ap, ◌∙◌}
+use Rattle.std.proofs.Common.{◌≡◌, ℕ, ◌+◌, ◌<◌, Bool, List, length, get_or, drop, Ok, Err, Option, Result, sym, refl, ap, ◌∙◌}
+use Rattle.std.specs.Result.{IsErrAnd}
 use Rattle.std.proofs.lemmas.List.{at_drop_more}
+use Rattle.std.proofs.lemmas.Result.{err_from_is_err_and}
 use Rattle.faults.specs.Faults.{first_of, answer}
-use Rattle.faults.proofs.Order.{lists_refused, lists_passed, value_from_ok}
+use Rattle.faults.proofs.Order.{lists_refused, lists_passed}
 use Rattle.device.specs.declared.Device.{Device}
-use Rattle.descriptor.specs.Vertex.{attribute_end}
 use Rattle.descriptor.specs.declared.vertex.VertexAttribute.{VertexAttribute}
 use Rattle.descriptor.specs.declared.vertex.VertexBufferLayout.{VertexBufferLayout}
 use Rattle.vertex.specs.declared.error.VertexStateError.{VertexStateError}
 use Rattle.vertex.specs.declared.step.VertexStep.{VertexStep}
-use Rattle.vertex.specs.Order.{attribute_verdicts, attributes_verdicts, greatest_end, claim_verdicts, claims_verdicts, mark, mark_all, mark_slot, ranges_verdicts, slot_verdicts, slots_verdicts, step_of}
+use Rattle.vertex.specs.Order.{attributes_verdicts, greatest_end, claim_verdicts, claims_verdicts, mark, mark_all, mark_slot, ranges_verdicts, slot_verdicts, slots_verdicts, step_of}
 
 -- the answer of a check that has no value
 abbrev pub passes : Option VertexStateError → Result (Unit {0}) VertexStateError
 passes o = answer o tt
 
+-- what the exit of a `?` returns is the refusal of its call
+pub exits : {A E : Type 0} {e : E} {whole : Result A E} (r : Result A E) → IsErrAnd r (λ y. y ≡ e) → Err e ≡ whole → r ≡ whole
+exits r h refusal = let p = err_from_is_err_and r h in rw (p.1, p.2) refusal
+
 -- the first round over a slot's attributes, with the greatest end so far
 abbrev pub attributes_answer : Device → ℕ → ℕ → List VertexAttribute → Result ℕ VertexStateError
 attributes_answer d most last part = answer (first_of (attributes_verdicts d most part)) (greatest_end last part)
-
-module _ (d : Device) (most last : ℕ) (part : List VertexAttribute) (i : ℕ) (a : VertexAttribute) (h : i < length part)
-    (whole : Result ℕ VertexStateError) (q : whole ≡ attributes_answer d most last (drop i part)) where
-  abbrev at : VertexAttribute
-  at = get_or part i a
-
-  abbrev rest : List VertexAttribute
-  rest = drop (i + 1) part
-
-  pub attributes_refused : (e : VertexStateError) → Err e ≡ answer (first_of (attribute_verdicts d most at)) (attribute_end at) → Err e ≡ whole
-  attributes_refused e p = lists_refused (attributes_answer d most last) part i a (attribute_verdicts d most at) (attributes_verdicts d most rest) _ refl h whole q (attribute_end at) e p
-
-  pub attributes_passed : (y next : ℕ) → Ok y ≡ answer (first_of (attribute_verdicts d most at)) (attribute_end at) → next ≡ max last y → whole ≡ attributes_answer d most next rest
-  attributes_passed y next p n =
-      lists_passed (attributes_answer d most last) part i a (attribute_verdicts d most at) (attributes_verdicts d most rest) _ refl h whole q (attribute_end at) y p
-      ∙ ap (λ m. attributes_answer d most m rest) (sym (n ∙ ap (max last) (value_from_ok _ _ y p)))
 
 -- the ranges of the slots from an index on
 abbrev pub ranges_answer : ℕ → ℕ → List (Option VertexBufferLayout) → Result (Unit {0}) VertexStateError

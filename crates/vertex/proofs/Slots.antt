@@ -1,6 +1,7 @@
 -- One slot: its three groups of verdicts, one call after the other.
 use Rattle.std.proofs.Common.{◌≡◌, ℕ, ◌+◌, ◌<◌, ◌≤◌, Bool, List, [], ◌∷◌, ◌++◌, length, get_or, Some, None, Ok, Err, Option, Result, sym, refl, ap, ◌∙◌, arith}
-use Rattle.std.specs.List.{AllByRecursion, ContainsAt}
+use Rattle.std.specs.List.{All, AllByRecursion, ContainsAt}
+use Rattle.std.proofs.lemmas.List.Elements.{All-from_recursion}
 use Rattle.std.proofs.ByRecursion.{All-weaker, has_get_or}
 use Rattle.std.proofs.lemmas.Bool.{leb-false, ltb-false, le-ltb}
 use Rattle.faults.specs.Faults.{or_else, first_of, answer}
@@ -16,13 +17,15 @@ use Rattle.vertex.specs.Rules.{InRange}
 use Rattle.vertex.proofs.Loops.{passes}
 
 -- the locations of attributes that pass the first round are below the limit
-low : (d : Device) (most : ℕ) (a : VertexAttribute) → first_of (attribute_verdicts d most a) ≡ None → a.shader_location < d.limits.max_vertex_attributes
-low d most a h = leb-false _ _ (not_if _ _ (all_none (attribute_verdicts d most a) h).1.1.0)
+low : (d : Device) (most : ℕ) (a : VertexAttribute) → first_of (attribute_verdicts d most a) ≡ None → a.shader_location < 32
+low d most a h =
+    let l = leb-false _ _ (not_if _ _ (all_none (attribute_verdicts d most a) h).1.1.0) in
+    let c = d.limits.attributes in
+    omega arith
 
-pub all_low : (d : Device) (most : ℕ) (part : List VertexAttribute) (y x : ℕ) → Ok y ≡ answer (first_of (attributes_verdicts d most part)) x → AllByRecursion (λ a. a.shader_location < 32) part
+pub all_low : (d : Device) (most : ℕ) (part : List VertexAttribute) (y x : ℕ) → Ok y ≡ answer (first_of (attributes_verdicts d most part)) x → All (λ a. a.shader_location < 32) part
 all_low d most part y x h =
-    All-weaker (λ a. first_of (attribute_verdicts d most a) ≡ None) (λ a. a.shader_location < 32) (λ a k. let l = low d most a k in let c = d.limits.attributes in omega arith) part
-    (each_none (attribute_verdicts d most) part (none_from_ok _ x y h))
+    All-from_recursion _ part (All-weaker _ _ (low d most) part (each_none (attribute_verdicts d most) part (none_from_ok _ x y h)))
 
 module _ (d : Device) (index : ℕ) (used : ℕ → Bool) (s : VertexBufferLayout) (part : List VertexAttribute) (most : ℕ)
     (first : Ok most ≡ answer (first_of (stride_verdicts d index s)) (reach d s)) where

@@ -1,6 +1,5 @@
 // The second round over the attributes: each claims its location, beside those that the ones before have claimed.
-ghost use Rattle.std.specs.Prelude.{◌≡◌, ◌<◌, OnOk};
-ghost use Rattle.std.specs.List.{AllByRecursion};
+ghost use Rattle.std.specs.Prelude.{◌≡◌, ◌<◌, All, OnOk};
 ghost use Rattle.faults.specs.Faults.{answer, first_of};
 ghost use Rattle.vertex.specs.Claims.{claimed, Roomy};
 ghost use Rattle.vertex.specs.Order.{far_verdict, format_verdict, clash_verdict, claim_verdicts, claims_verdicts, mark, mark_all, unused};
@@ -61,7 +60,7 @@ impl Locations {
         device: &Device,
         part: &[VertexAttribute],
     ) -> Result<(), VertexStateError>
-        requires { AllByRecursion (λ a. a.shader_location < 32) part.now }
+        requires { All (λ a. a.shader_location < 32) part.now }
         ensures verdict { result ≡ answer (first_of (claims_verdicts device.now (claimed self.old.places) part.now)) tt }
         ensures after { OnOk result (claimed self.new.places ≡ mark_all (claimed self.old.places) part.now) }
     {

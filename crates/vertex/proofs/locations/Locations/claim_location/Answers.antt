@@ -1,5 +1,4 @@
-use Rattle.std.proofs.Common.{sym}
-use Rattle.vertex.proofs.Room.{not_refused, not_clashed, marks, room_kept}
+use Rattle.vertex.proofs.Room.{not_refused, room_kept}
 use Rattle.vertex.proofs.locations.Locations.claim_location.Goals as goal
 
 pub unreachable-requires : goal.unreachable-requires
@@ -9,11 +8,3 @@ unreachable-requires c =
 pub invariant_of-self : goal.invariant_of-self
 invariant_of-self c =
     record { roomy = room_kept c.args.self.now.places c.args.a.now.shader_location _ _ c.insert.result c.requires c.args.self.now.roomy c.insert.ensures.effect }
-
-pub returns : goal.returns
-returns c =
-    let w = c.in-Ok.ensures.effect in
-    record {
-      verdict = not_clashed c.args.self.now.places c.args.a.now _ _ _ w (sym c.if-is_some.ensures) _;
-      after = marks _ _ _ _ _ w;
-    }
