@@ -1,17 +1,15 @@
 -- One slot: its three groups of verdicts, one call after the other.
-use Rattle.std.proofs.Common.{◌≡◌, ℕ, ◌+◌, ◌<◌, ◌≤◌, Bool, List, [], ◌∷◌, ◌++◌, length, get_or, Some, None, Ok, Err, Option, Result, sym, refl, ap, ◌∙◌, arith}
+use Rattle.std.proofs.Common.{◌≡◌, ℕ, ◌+◌, ◌<◌, ◌≤◌, List, [], ◌∷◌, length, get_or, Some, None, Ok, Option, refl, ap, ◌∙◌, arith}
 use Rattle.std.specs.List.{All, AllByRecursion, ContainsAt}
 use Rattle.std.proofs.lemmas.List.Elements.{All-from_recursion}
 use Rattle.std.proofs.ByRecursion.{All-weaker, has_get_or}
 use Rattle.std.proofs.lemmas.Bool.{leb-false, ltb-false, le-ltb}
 use Rattle.faults.specs.Faults.{or_else, first_of, answer}
-use Rattle.faults.proofs.Order.{at_first, at_next, value_from_ok, none_from_ok, same_refusal, same_acceptance, all_none, none_all, each_none, not_if, if_not}
+use Rattle.faults.proofs.Order.{none_from_ok, all_none, none_all, each_none, not_if, if_not}
 use Rattle.device.specs.declared.Device.{Device}
 use Rattle.descriptor.specs.declared.vertex.VertexAttribute.{VertexAttribute}
 use Rattle.descriptor.specs.declared.vertex.VertexBufferLayout.{VertexBufferLayout}
-use Rattle.vertex.specs.declared.error.VertexStateError.{VertexStateError}
-use Rattle.vertex.specs.declared.step.VertexStep.{VertexStep}
-use Rattle.vertex.specs.Order.{attribute_verdicts, attributes_verdicts, claims_verdicts, stride_verdicts, part_verdicts, part_step, range_verdict, ranges_verdicts, buffers_verdict, reach, last_stride_of}
+use Rattle.vertex.specs.Order.{attribute_verdicts, attributes_verdicts, range_verdict, ranges_verdicts, buffers_verdict}
 use Rattle.vertex.specs.Claims.{InList}
 use Rattle.vertex.specs.Rules.{InRange}
 use Rattle.vertex.proofs.Loops.{passes}
@@ -26,37 +24,6 @@ low d most a h =
 pub all_low : (d : Device) (most : ℕ) (part : List VertexAttribute) (y x : ℕ) → Ok y ≡ answer (first_of (attributes_verdicts d most part)) x → All (λ a. a.shader_location < 32) part
 all_low d most part y x h =
     All-from_recursion _ part (All-weaker _ _ (low d most) part (each_none (attribute_verdicts d most) part (none_from_ok _ x y h)))
-
-module _ (d : Device) (index : ℕ) (used : ℕ → Bool) (s : VertexBufferLayout) (part : List VertexAttribute) (most : ℕ)
-    (first : Ok most ≡ answer (first_of (stride_verdicts d index s)) (reach d s)) where
-  abbrev whole : Result VertexStep VertexStateError
-  whole = answer (first_of (part_verdicts d index used s part)) (part_step s part)
-
-  -- the stride passes
-  after_stride : whole ≡ answer (first_of (attributes_verdicts d most part ++ claims_verdicts d used part)) (part_step s part)
-  after_stride =
-      at_next (stride_verdicts d index s) (attributes_verdicts d (reach d s) part ++ claims_verdicts d used part) (reach d s) (part_step s part) most first
-      ∙ ap (λ m. answer (first_of (attributes_verdicts d m part ++ claims_verdicts d used part)) (part_step s part)) (sym (value_from_ok _ (reach d s) most first))
-
-  pub attributes_refuse : (e : VertexStateError) → Err e ≡ answer (first_of (attributes_verdicts d most part)) (last_stride_of part) → Err e ≡ whole
-  attributes_refuse e h = at_first (attributes_verdicts d most part) (claims_verdicts d used part) (last_stride_of part) (part_step s part) e h ∙ sym after_stride
-
-  module _ (last : ℕ) (second : Ok last ≡ answer (first_of (attributes_verdicts d most part)) (last_stride_of part)) where
-    -- the first round passes
-    after_attributes : whole ≡ answer (first_of (claims_verdicts d used part)) (part_step s part)
-    after_attributes = after_stride ∙ at_next (attributes_verdicts d most part) (claims_verdicts d used part) (last_stride_of part) (part_step s part) last second
-
-    pub claims_refuse : (e : VertexStateError) → Err e ≡ passes (first_of (claims_verdicts d used part)) → Err e ≡ whole
-    claims_refuse e h = same_refusal (first_of (claims_verdicts d used part)) tt (part_step s part) e h ∙ sym after_attributes
-
-    -- and the second
-    abbrev step : ℕ → VertexStep
-    step n = record { stride = s.array_stride; last_stride = n; mode = s.step_mode }
-
-    pub slot_passes : Ok tt ≡ passes (first_of (claims_verdicts d used part)) → Ok (step last) ≡ whole
-    slot_passes h =
-        same_acceptance (first_of (claims_verdicts d used part)) tt tt (part_step s part) (step last) h (ap step (value_from_ok _ (last_stride_of part) last second))
-        ∙ sym after_attributes
 
 -- where no slot's part leaves the list, that of the i-th stays in it
 stays : (attributes : List VertexAttribute) (index : ℕ) (o : Option VertexBufferLayout) → range_verdict (length attributes) index o ≡ None → InList attributes o

@@ -1,9 +1,8 @@
 use Rattle.std.proofs.Common.{set, None, ap, ◌∙◌, arith}
-use Rattle.faults.proofs.Order.{value_from_ok, same_refusal}
+use Rattle.faults.proofs.Order.{value_from_ok}
 use Rattle.faults.proofs.Fixed.{filled_more}
-use Rattle.vertex.specs.Claims.{claimed}
 use Rattle.vertex.specs.Order.{step_of}
-use Rattle.vertex.proofs.Loops.{exits, slots_refused, slots_passed}
+use Rattle.vertex.proofs.Loops.{in_order}
 use Rattle.vertex.proofs.Slots.{slot_stays}
 use Rattle.vertex.proofs.layout.Bounded.judge_slots.Goals as goal
 
@@ -13,21 +12,14 @@ judge_slot-requires c =
     slot_stays v.buffers.now v.attributes.now c.args.self.now.ranged c.loop-i.i c.loop-i-test.true
 
 pub returns-in_err-steps : goal.returns-in_err-steps
-returns-in_err-steps c =
-    let v = c.args.self.now.vertex.now in
-    exits _ c.from_residual.ensures.1
-    (same_refusal _ tt _ _
-    (slots_refused c.args.self.now.device.now v.attributes.now (claimed c.loop-i.locations.places) v.buffers.now c.loop-i.i None
-    c.loop-i-test.true _ c.loop-i.invariant.verdict _ c.in_err-steps.ensures.verdict))
+returns-in_err-steps c = grind in_order
 
 pub loop-i-preserved : goal.loop-i-preserved
 loop-i-preserved c =
     let v = c.args.self.now.vertex.now in
     let e = c.in_ok-steps.ensures in
     record {
-      verdict =
-          slots_passed c.args.self.now.device.now v.attributes.now (claimed c.loop-i.locations.places) v.buffers.now c.loop-i.i None
-          c.loop-i-test.true _ c.loop-i.invariant.verdict _ _ e.after e.verdict;
+      verdict = grind in_order;
       kept =
           ap (set c.loop-i.steps c.loop-i.i) (value_from_ok _ _ _ e.verdict)
           ∙ filled_more (step_of v.attributes.now) v.buffers.now 16 c.loop-i.i None None c.loop-i-test.true (omega arith) c.loop-i.steps c.loop-i.invariant.kept;
