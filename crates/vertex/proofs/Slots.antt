@@ -1,4 +1,4 @@
--- One slot: its three groups of verdicts, one call after the other.
+-- What is known of slots and attributes whose verdicts are none: locations below 32, and parts that stay in the list.
 use Rattle.std.proofs.Common.{◌≡◌, ℕ, ◌+◌, ◌<◌, ◌≤◌, List, [], ◌∷◌, length, get_or, Some, None, Ok, Option, refl, ap, ◌∙◌, arith}
 use Rattle.std.specs.List.{All, AllByRecursion, ContainsAt}
 use Rattle.std.proofs.lemmas.List.Elements.{All-from_recursion}
@@ -52,10 +52,3 @@ in_list attributes slots (Some s) h w = h s w
 
 pub slot_stays : (slots : List (Option VertexBufferLayout)) (attributes : List VertexAttribute) → InRange slots attributes → (i : ℕ) → i < length slots → InList attributes (get_or slots i None)
 slot_stays slots attributes h i l = in_list attributes slots (get_or slots i None) h (has_get_or slots i None l)
-
--- slots that pass the limit of their number are at most 16
-pub few_slots : (d : Device) (slots : List (Option VertexBufferLayout)) (y : Unit {0}) → Ok y ≡ passes (buffers_verdict d slots) → length slots ≤ 16
-few_slots d slots y h =
-    let l = ltb-false _ _ (not_if _ _ (none_from_ok (buffers_verdict d slots) tt y h)) in
-    let c = d.limits.buffers in
-    omega arith

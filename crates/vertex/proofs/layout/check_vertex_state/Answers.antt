@@ -18,7 +18,7 @@ returns-in_err-check_buffer_count c =
 pub invariant_of-bounded : goal.invariant_of-bounded
 invariant_of-bounded c =
     record {
-      few = few_slots c.args.device.now c.args.vertex.now.buffers.now _ c.in_ok-check_buffer_count.ensures;
+      few = grind (in_order, c.args.device.now.limits.buffers);
       ranged = c.in_ok-check_attribute_ranges.ensures.lawful refl;
     }
 
