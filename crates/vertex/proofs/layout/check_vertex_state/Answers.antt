@@ -2,7 +2,6 @@
 use Rattle.std.proofs.Common.{refl}
 use Rattle.vertex.proofs.Loops.{in_order}
 use Rattle.vertex.proofs.Kept.{answers}
-use Rattle.vertex.proofs.Slots.{few_slots}
 use Rattle.vertex.proofs.layout.check_vertex_state.Goals as goal
 
 pub returns-in_err-check_attribute_ranges : goal.returns-in_err-check_attribute_ranges
