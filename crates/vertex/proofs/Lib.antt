@@ -3,4 +3,3 @@ pub mod Lawful
 pub mod Loops
 pub mod Room
 pub mod Slots
-pub mod Whole

@@ -1,39 +1,25 @@
 -- What is left of a loop's answer, from its state and the rest of its list, and one turn of it.
-use Rattle.std.proofs.Common.{◌≡◌, ℕ, ◌+◌, ◌<◌, max, Bool, List, length, get_or, drop, Ok, Err, Option, Result, sym, refl, ap, ◌∙◌}
+use Rattle.std.proofs.Common.{◌≡◌, ℕ, ◌+◌, ◌<◌, Bool, List, length, get_or, drop, Ok, Err, Option, Result, sym, refl, ap, ◌∙◌, arith}
 use Rattle.std.proofs.lemmas.List.{at_drop_more}
 use Rattle.faults.specs.Faults.{first_of, answer}
-use Rattle.faults.proofs.Order.{lists_refused, lists_passed, value_from_ok}
+use Rattle.std.proofs.lemmas.Grind.{common_steps}
+use Rattle.faults.proofs.Order.{first_of-append, lists_refused, lists_passed}
 use Rattle.device.specs.declared.Device.{Device}
-use Rattle.descriptor.specs.Vertex.{attribute_end}
 use Rattle.descriptor.specs.declared.vertex.VertexAttribute.{VertexAttribute}
 use Rattle.descriptor.specs.declared.vertex.VertexBufferLayout.{VertexBufferLayout}
 use Rattle.vertex.specs.declared.error.VertexStateError.{VertexStateError}
-use Rattle.vertex.specs.declared.step.VertexStep.{VertexStep}
-use Rattle.vertex.specs.Order.{attribute_verdicts, attributes_verdicts, greatest_end, claim_verdicts, claims_verdicts, mark, mark_all, mark_slot, ranges_verdicts, slot_verdicts, slots_verdicts, step_of}
+use Rattle.vertex.specs.Order.{attributes_verdicts, greatest_end, claim_verdicts, claims_verdicts, mark, mark_all, ranges_verdicts, slots_verdicts}
 
 -- the answer of a check that has no value
 abbrev pub passes : Option VertexStateError → Result (Unit {0}) VertexStateError
 passes o = answer o tt
 
+-- for `grind`: calls with `?`, one after the other, answer the first fault of their verdicts one after the other
+pub ruleset in_order = (arith, common_steps, first_of-append)
+
 -- the first round over a slot's attributes, with the greatest end so far
 abbrev pub attributes_answer : Device → ℕ → ℕ → List VertexAttribute → Result ℕ VertexStateError
 attributes_answer d most last part = answer (first_of (attributes_verdicts d most part)) (greatest_end last part)
-
-module _ (d : Device) (most last : ℕ) (part : List VertexAttribute) (i : ℕ) (a : VertexAttribute) (h : i < length part)
-    (whole : Result ℕ VertexStateError) (q : whole ≡ attributes_answer d most last (drop i part)) where
-  abbrev at : VertexAttribute
-  at = get_or part i a
-
-  abbrev rest : List VertexAttribute
-  rest = drop (i + 1) part
-
-  pub attributes_refused : (e : VertexStateError) → Err e ≡ answer (first_of (attribute_verdicts d most at)) (attribute_end at) → Err e ≡ whole
-  attributes_refused e p = lists_refused (attributes_answer d most last) part i a (attribute_verdicts d most at) (attributes_verdicts d most rest) _ refl h whole q (attribute_end at) e p
-
-  pub attributes_passed : (y next : ℕ) → Ok y ≡ answer (first_of (attribute_verdicts d most at)) (attribute_end at) → next ≡ max last y → whole ≡ attributes_answer d most next rest
-  attributes_passed y next p n =
-      lists_passed (attributes_answer d most last) part i a (attribute_verdicts d most at) (attributes_verdicts d most rest) _ refl h whole q (attribute_end at) y p
-      ∙ ap (λ m. attributes_answer d most m rest) (sym (n ∙ ap (max last) (value_from_ok _ _ y p)))
 
 -- the ranges of the slots from an index on
 abbrev pub ranges_answer : ℕ → ℕ → List (Option VertexBufferLayout) → Result (Unit {0}) VertexStateError
@@ -65,19 +51,3 @@ module _ (d : Device) (used : ℕ → Bool) (part : List VertexAttribute) (i : �
 -- the slots from an index on, beside the locations that are used
 abbrev pub slots_answer : Device → List VertexAttribute → ℕ → (ℕ → Bool) → List (Option VertexBufferLayout) → Result (Unit {0}) VertexStateError
 slots_answer d attributes index used slots = passes (first_of (slots_verdicts d attributes index used slots))
-
-module _ (d : Device) (attributes : List VertexAttribute) (used : ℕ → Bool) (slots : List (Option VertexBufferLayout)) (i : ℕ) (o : Option VertexBufferLayout) (h : i < length slots)
-    (whole : Result (Unit {0}) VertexStateError) (q : whole ≡ slots_answer d attributes i used (drop i slots)) where
-  abbrev slot : Option VertexBufferLayout
-  slot = get_or slots i o
-
-  abbrev later : List (Option VertexBufferLayout)
-  later = drop (i + 1) slots
-
-  pub slots_refused : (e : VertexStateError) → Err e ≡ answer (first_of (slot_verdicts d attributes i used slot)) (step_of attributes slot) → Err e ≡ whole
-  slots_refused e p = lists_refused (slots_answer d attributes i used) slots i o (slot_verdicts d attributes i used slot) (slots_verdicts d attributes (i + 1) (mark_slot attributes used slot) later) tt refl h whole q (step_of attributes slot) e p
-
-  pub slots_passed : (y : Option VertexStep) (next : ℕ → Bool) → next ≡ mark_slot attributes used slot → Ok y ≡ answer (first_of (slot_verdicts d attributes i used slot)) (step_of attributes slot) → whole ≡ slots_answer d attributes (i + 1) next later
-  slots_passed y next n p =
-      lists_passed (slots_answer d attributes i used) slots i o (slot_verdicts d attributes i used slot) (slots_verdicts d attributes (i + 1) (mark_slot attributes used slot) later) tt refl h whole q (step_of attributes slot) y p
-      ∙ ap (λ u. slots_answer d attributes (i + 1) u later) (sym n)

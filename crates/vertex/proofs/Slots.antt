@@ -1,58 +1,28 @@
--- One slot: its three groups of verdicts, one call after the other.
-use Rattle.std.proofs.Common.{◌≡◌, ℕ, ◌+◌, ◌<◌, Bool, List, [], ◌∷◌, ◌++◌, length, Some, None, Ok, Err, Option, Result, sym, refl, ap, ◌∙◌, arith}
-use Rattle.std.specs.List.{AllByRecursion}
-use Rattle.std.proofs.ByRecursion.{All-weaker}
+-- What is known of slots and attributes whose verdicts are none: locations below 32, and parts that stay in the list.
+use Rattle.std.proofs.Common.{◌≡◌, ℕ, ◌+◌, ◌<◌, List, [], ◌∷◌, length, get_or, Some, None, Ok, Option, refl, ap, ◌∙◌, arith}
+use Rattle.std.specs.List.{All, AllByRecursion, ContainsAt}
+use Rattle.std.proofs.lemmas.List.Elements.{All-from_recursion}
+use Rattle.std.proofs.ByRecursion.{All-weaker, has_get_or}
 use Rattle.std.proofs.lemmas.Bool.{leb-false, ltb-false, le-ltb}
 use Rattle.faults.specs.Faults.{or_else, first_of, answer}
-use Rattle.faults.proofs.Order.{at_first, at_next, value_from_ok, none_from_ok, same_refusal, same_acceptance, all_none, none_all, each_none, not_if, if_not}
+use Rattle.faults.proofs.Order.{none_from_ok, all_none, none_all, each_none, not_if, if_not}
 use Rattle.device.specs.declared.Device.{Device}
 use Rattle.descriptor.specs.declared.vertex.VertexAttribute.{VertexAttribute}
 use Rattle.descriptor.specs.declared.vertex.VertexBufferLayout.{VertexBufferLayout}
-use Rattle.vertex.specs.declared.error.VertexStateError.{VertexStateError}
-use Rattle.vertex.specs.declared.step.VertexStep.{VertexStep}
-use Rattle.vertex.specs.Order.{attribute_verdicts, attributes_verdicts, claims_verdicts, stride_verdicts, part_verdicts, part_step, range_verdict, ranges_verdicts, reach, last_stride_of}
+use Rattle.vertex.specs.Order.{attribute_verdicts, attributes_verdicts, range_verdict, ranges_verdicts}
 use Rattle.vertex.specs.Claims.{InList}
-use Rattle.vertex.proofs.Loops.{passes}
+use Rattle.vertex.specs.Rules.{InRange}
 
 -- the locations of attributes that pass the first round are below the limit
-low : (d : Device) (most : ℕ) (a : VertexAttribute) → first_of (attribute_verdicts d most a) ≡ None → a.shader_location < d.limits.max_vertex_attributes
-low d most a h = leb-false _ _ (not_if _ _ (all_none (attribute_verdicts d most a) h).1.1.0)
+low : (d : Device) (most : ℕ) (a : VertexAttribute) → first_of (attribute_verdicts d most a) ≡ None → a.shader_location < 32
+low d most a h =
+    let l = leb-false _ _ (not_if _ _ (all_none (attribute_verdicts d most a) h).1.1.0) in
+    let c = d.limits.attributes in
+    omega arith
 
-pub all_low : (d : Device) (most : ℕ) (part : List VertexAttribute) (y x : ℕ) → Ok y ≡ answer (first_of (attributes_verdicts d most part)) x → AllByRecursion (λ a. a.shader_location < 32) part
+pub all_low : (d : Device) (most : ℕ) (part : List VertexAttribute) (y x : ℕ) → Ok y ≡ answer (first_of (attributes_verdicts d most part)) x → All (λ a. a.shader_location < 32) part
 all_low d most part y x h =
-    All-weaker (λ a. first_of (attribute_verdicts d most a) ≡ None) (λ a. a.shader_location < 32) (λ a k. let l = low d most a k in let c = d.limits.attributes in omega arith) part
-    (each_none (attribute_verdicts d most) part (none_from_ok _ x y h))
-
-module _ (d : Device) (index : ℕ) (used : ℕ → Bool) (s : VertexBufferLayout) (part : List VertexAttribute) (most : ℕ)
-    (first : Ok most ≡ answer (first_of (stride_verdicts d index s)) (reach d s)) where
-  abbrev whole : Result VertexStep VertexStateError
-  whole = answer (first_of (part_verdicts d index used s part)) (part_step s part)
-
-  -- the stride passes
-  after_stride : whole ≡ answer (first_of (attributes_verdicts d most part ++ claims_verdicts d used part)) (part_step s part)
-  after_stride =
-      at_next (stride_verdicts d index s) (attributes_verdicts d (reach d s) part ++ claims_verdicts d used part) (reach d s) (part_step s part) most first
-      ∙ ap (λ m. answer (first_of (attributes_verdicts d m part ++ claims_verdicts d used part)) (part_step s part)) (sym (value_from_ok _ (reach d s) most first))
-
-  pub attributes_refuse : (e : VertexStateError) → Err e ≡ answer (first_of (attributes_verdicts d most part)) (last_stride_of part) → Err e ≡ whole
-  attributes_refuse e h = at_first (attributes_verdicts d most part) (claims_verdicts d used part) (last_stride_of part) (part_step s part) e h ∙ sym after_stride
-
-  module _ (last : ℕ) (second : Ok last ≡ answer (first_of (attributes_verdicts d most part)) (last_stride_of part)) where
-    -- the first round passes
-    after_attributes : whole ≡ answer (first_of (claims_verdicts d used part)) (part_step s part)
-    after_attributes = after_stride ∙ at_next (attributes_verdicts d most part) (claims_verdicts d used part) (last_stride_of part) (part_step s part) last second
-
-    pub claims_refuse : (e : VertexStateError) → Err e ≡ passes (first_of (claims_verdicts d used part)) → Err e ≡ whole
-    claims_refuse e h = same_refusal (first_of (claims_verdicts d used part)) tt (part_step s part) e h ∙ sym after_attributes
-
-    -- and the second
-    abbrev step : ℕ → VertexStep
-    step n = record { stride = s.array_stride; last_stride = n; mode = s.step_mode }
-
-    pub slot_passes : Ok tt ≡ passes (first_of (claims_verdicts d used part)) → Ok (step last) ≡ whole
-    slot_passes h =
-        same_acceptance (first_of (claims_verdicts d used part)) tt tt (part_step s part) (step last) h (ap step (value_from_ok _ (last_stride_of part) last second))
-        ∙ sym after_attributes
+    All-from_recursion _ part (All-weaker _ _ (low d most) part (each_none (attribute_verdicts d most) part (none_from_ok _ x y h)))
 
 -- where no slot's part leaves the list, that of the i-th stays in it
 stays : (attributes : List VertexAttribute) (index : ℕ) (o : Option VertexBufferLayout) → range_verdict (length attributes) index o ≡ None → InList attributes o
@@ -73,3 +43,11 @@ pub none_stay : (attributes : List VertexAttribute) (index : ℕ) (slots : List 
 none_stay attributes index [] h = refl
 none_stay attributes index (o ∷ rest) h =
     ap (λ v. or_else v (first_of (ranges_verdicts (length attributes) (index + 1) rest))) (none_stays attributes index o h.0) ∙ none_stay attributes (index + 1) rest h.1
+
+-- the i-th slot of those whose parts all stay in the list
+in_list : (attributes : List VertexAttribute) (slots : List (Option VertexBufferLayout)) (o : Option VertexBufferLayout) → InRange slots attributes → ContainsAt slots o → InList attributes o
+in_list attributes slots None h w = tt
+in_list attributes slots (Some s) h w = h s w
+
+pub slot_stays : (slots : List (Option VertexBufferLayout)) (attributes : List VertexAttribute) → InRange slots attributes → (i : ℕ) → i < length slots → InList attributes (get_or slots i None)
+slot_stays slots attributes h i l = in_list attributes slots (get_or slots i None) h (has_get_or slots i None l)

@@ -7,7 +7,7 @@ ghost use Rattle.vertex.specs.declared.error.VertexStateError.TheVariants.{Missi
 use device::MissingFeatures;
 use std::fmt;
 
-#[derive(Clone, Copy)]
+#[derive(Clone, Copy, PartialEq, Eq, Debug)]
 pub enum VertexStateError {
     AttributeRange {
         index: u64,
@@ -79,69 +79,57 @@ impl VertexStateError {
 impl fmt::Display for VertexStateError {
     ghost output = { words };
 
+    // An arm for each fault: the formatter breaks each text over lines, and parts would be no plainer.
     fn fmt<W: fmt::Write>(&self, f: &mut fmt::Formatter<W>) -> fmt::Result {
         match self {
             Self::AttributeRange {
                 index,
                 given,
                 limit,
-            } => {
-                write!(
-                    f,
-                    "vertex buffer {index} ends at attribute {given}, the list at {limit}"
-                )
-            }
-            Self::TooManyVertexBuffers { given, limit } => {
-                write!(
-                    f,
-                    "{given} vertex buffers are more than the limit of {limit}"
-                )
-            }
+            } => write!(
+                f,
+                "vertex buffer {index} ends at attribute {given}, the list at {limit}"
+            ),
+            Self::TooManyVertexBuffers { given, limit } => write!(
+                f,
+                "{given} vertex buffers are more than the limit of {limit}"
+            ),
             Self::VertexStrideTooLarge {
                 index,
                 given,
                 limit,
-            } => {
-                write!(
-                    f,
-                    "vertex buffer {index} has stride {given}, above the limit of {limit}"
-                )
-            }
-            Self::UnalignedVertexStride { index, stride } => {
-                write!(
-                    f,
-                    "vertex buffer {index} has stride {stride}, which is no multiple of 4"
-                )
-            }
+            } => write!(
+                f,
+                "vertex buffer {index} has stride {given}, above the limit of {limit}"
+            ),
+            Self::UnalignedVertexStride { index, stride } => write!(
+                f,
+                "vertex buffer {index} has stride {stride}, which is no multiple of 4"
+            ),
             Self::VertexAttributeStrideTooLarge {
                 location,
                 given,
                 limit,
-            } => {
-                write!(
-                    f,
-                    "attribute at location {location} ends at byte {given}, beyond {limit}"
-                )
-            }
-            Self::InvalidVertexAttributeOffset { location, offset } => {
-                write!(
-                    f,
-                    "attribute at location {location} has offset {offset}, unaligned or not below 2^28"
-                )
-            }
-            Self::VertexAttributeLocationTooLarge { given, limit } => {
-                write!(f, "location {given} is not below the limit of {limit}")
-            }
+            } => write!(
+                f,
+                "attribute at location {location} ends at byte {given}, beyond {limit}"
+            ),
+            Self::InvalidVertexAttributeOffset { location, offset } => write!(
+                f,
+                "attribute at location {location} has offset {offset}, unaligned or not below 2^28"
+            ),
+            Self::VertexAttributeLocationTooLarge { given, limit } => write!(
+                f,
+                "location {given} is not below the limit of {limit}"
+            ),
             Self::ShaderLocationClash(location) => write!(
                 f,
                 "two attributes have location {location}"
             ),
-            Self::TooManyVertexAttributes { given, limit } => {
-                write!(
-                    f,
-                    "{given} vertex attributes are more than the limit of {limit}"
-                )
-            }
+            Self::TooManyVertexAttributes { given, limit } => write!(
+                f,
+                "{given} vertex attributes are more than the limit of {limit}"
+            ),
             Self::MissingFeatures(e) => write!(f, "{e}"),
         }
     }

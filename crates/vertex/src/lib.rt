@@ -3,4 +3,6 @@
 
 pub mod error;
 pub mod layout;
+mod locations;
+mod reach;
 pub mod step;

@@ -1,7 +1,7 @@
 // What is kept of an accepted slot.
 use descriptor::vertex::VertexStepMode;
 
-#[derive(Clone, Copy)]
+#[derive(Clone, Copy, PartialEq, Eq, Debug)]
 pub struct VertexStep {
     // The bytes from one element to the next.
     pub stride: u64,

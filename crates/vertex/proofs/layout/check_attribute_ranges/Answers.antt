@@ -1,24 +1,11 @@
-use Rattle.std.proofs.Common.{length, None, refl}
-use Rattle.std.proofs.lemmas.Result.{err_from_is_err_and}
-use Rattle.faults.proofs.Order.{loop_refused, loop_passed, loop_ends}
+use Rattle.vertex.proofs.Loops.{in_order}
 use Rattle.vertex.proofs.Lawful.{ranges_answer_lem}
-use Rattle.vertex.proofs.Loops.{ranges_answer}
 use Rattle.vertex.proofs.layout.check_attribute_ranges.Goals as goal
 
 pub returns-in_err-check_range : goal.returns-in_err-check_range
 returns-in_err-check_range c =
-    let p = err_from_is_err_and c.from_residual.result c.from_residual.ensures.1 in
-    ranges_answer_lem c.args.vertex.now.buffers.now c.args.vertex.now.attributes.now _
-    (rw (p.1, p.2)
-    (loop_refused (ranges_answer (length c.args.vertex.now.attributes.now) c.loop-i.i) c.args.vertex.now.buffers.now c.loop-i.i None _ _ _ refl
-    c.loop-i-test.true _ c.loop-i.invariant _ _ c.in_err-check_range.ensures))
-
-pub loop-i-preserved : goal.loop-i-preserved
-loop-i-preserved c =
-    loop_passed (ranges_answer (length c.args.vertex.now.attributes.now) c.loop-i.i) c.args.vertex.now.buffers.now c.loop-i.i None _ _ _ refl
-    c.loop-i-test.true _ c.loop-i.invariant _ _ c.in_ok-check_range.ensures
+    ranges_answer_lem c.args.vertex.now.buffers.now c.args.vertex.now.attributes.now _ (grind in_order)
 
 pub returns : goal.returns
 returns c =
-    ranges_answer_lem c.args.vertex.now.buffers.now c.args.vertex.now.attributes.now _
-    (loop_ends (ranges_answer (length c.args.vertex.now.attributes.now) c.loop-i.i) c.args.vertex.now.buffers.now _ _ c.loop-i.invariant c.loop-i-test.false)
+    ranges_answer_lem c.args.vertex.now.buffers.now c.args.vertex.now.attributes.now _ (grind in_order)
