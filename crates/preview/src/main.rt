@@ -40,11 +40,8 @@ const WORKSHOP: RequiredLimits = RequiredLimits {
 
 // One buffer more than any device may have.
 const ABOVE: RequiredLimits = RequiredLimits {
-    max_color_attachments: 8,
     max_vertex_buffers: 17,
-    max_vertex_attributes: 16,
-    max_vertex_buffer_array_stride: 2_048,
-    max_color_attachment_bytes_per_sample: 32,
+    ..PANEL
 };
 
 fn show_slot(rt: &HostRuntime, index: usize, slot: Option<VertexBufferLayout>) -> io::Result<()> {
