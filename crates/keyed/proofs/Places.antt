@@ -46,7 +46,7 @@ module _ {K V : Type 0} (same : K → K → Bool) where
   lookup-find (None ∷ ps) k = lookup-find ps k
   lookup-find (Some e ∷ ps) k = elim (cases_Bool (same e.key k)) [ inl t ↦ rw t refl | inr f ↦ rw f (lookup-find ps k) ]
 
-  -- the places one by one
+  -- what stands under a key, a place at a time
   lookup-cons : (k : K) (p : Option (Entry K V)) (ps : List (Option (Entry K V))) → lookup same (p ∷ ps) k ≡ cond (hit same k p) (value_of p) (lookup same ps k)
   unfolding lookup
   lookup-cons k None ps = refl
@@ -121,6 +121,6 @@ module _ {K V : Type 0} (same : K → K → Bool) where
               at_place ps i k v d within (λ j l. fails_before_first (hit same k) ps j d (omega arith)) (grind arith) (lookup_none ps k new ∙ sym (value_none (get_or ps i d) here))
         ]
 
-    -- the same by what was found, read and written there
+    -- the same, by what was read and written there
     pub stored : (ps : List (Option (Entry K V))) (i : ℕ) (k : K) (v : V) (old new : Option (Entry K V)) (earlier : Option V) → option_or (position (hit same k) ps) (position is_empty ps) ≡ Some i → old ≡ get_or ps i old → new ≡ holding k v → earlier ≡ value_of old → Stored same ps k v earlier (set ps i new)
     stored ps i k v old new earlier some read written answer = rw (written, answer ∙ ap value_of read) (stored_at ps i k v old some)
