@@ -1,50 +1,67 @@
--- The places of a map, one by one: what a search over them finds, and what a store leaves.
-use Rattle.std.proofs.Common.{◌≡◌, ℕ, suc, ◌+◌, ◌<◌, ◌≤◌, Bool, true, false, cond, List, [], ◌∷◌, length, get_or, drop, set, Some, None, Option, sym, refl, ap, ◌∙◌, inl, inr, arith}
-use Rattle.std.proofs.lemmas.List.{at_drop_more, at_drop_all, get_or_past, get_or_read}
+-- The places of a map, one by one: what stands under a key, and what a store leaves.
+use Rattle.std.proofs.Common.{◌≡◌, ℕ, zero, suc, ◌<◌, ◌≤◌, Bool, true, false, ◌||◌, List, [], ◌∷◌, length, get_or, set, Some, None, Option, sym, refl, ap, ◌∙◌, inl, inr, ◌⊎◌, cond, arith, position}
 use Rattle.std.proofs.lemmas.Bool.{cases_Bool}
+use Rattle.std.proofs.lemmas.Bool.Decides.{nat_tests}
+use Rattle.std.proofs.lemmas.List.Quantifiers.{position-Some}
+use Rattle.std.proofs.lemmas.List.Recursion.{found_at, found_nowhere}
+use Rattle.std.proofs.lemmas.List.Sums.{fails_before_first}
+use Rattle.std.specs.List.{find, flat_map, position_or_len}
+use Rattle.std.specs.Option.{option_map, option_or, option_to_list}
 use Rattle.keyed.specs.declared.Entry.{Entry}
-use Rattle.keyed.specs.Lookup.{first, hit, is_empty, value_of, lookup, taken, Stored, Refused}
+use Rattle.keyed.specs.Lookup.{hit, is_empty, value_of, lookup, taken, Stored, Refused}
 
--- at place i a search ends or goes on, by what the test of the element there answers
-pub first_more : {X : Type 0} (p : X → Bool) (xs : List X) (i : ℕ) (x : X) (r : Bool) {b : Bool} → i < length xs → x ≡ get_or xs i x → r ≡ p x → r ≡ b → first p (drop i xs) ≡ cond b 0 (suc (first p (drop (i + 1) xs)))
-unfolding first
-first_more p xs i x r h e t s = at_drop_more (first p) xs i x h ∙ ap (λ b. cond b 0 (suc (first p (drop (i + 1) xs)))) (ap p (sym e) ∙ sym t ∙ s)
+-- which of the two an `or` answered
+or_some : {X : Type 0} (o p : Option X) (x : X) → option_or o p ≡ Some x → (o ≡ Some x) ⊎ ((o ≡ None) × (p ≡ Some x))
+or_some None p x h = inr (refl, h)
+or_some (Some y) p x h = inl h
 
--- past the last place nothing is left to search
-pub first_all : {X : Type 0} (p : X → Bool) (xs : List X) (i : ℕ) → length xs ≤ i → first p (drop i xs) ≡ 0
-unfolding first
-first_all p xs i = at_drop_all (first p) xs i
+or_none : {X : Type 0} (o p : Option X) → option_or o p ≡ None → (o ≡ None) × (p ≡ None)
+or_none None p h = (refl, h)
+or_none (Some y) p h = cc
+
+-- where no element passes, the search went past the last
+nowhere : {X : Type 0} (p : X → Bool) (xs : List X) → position p xs ≡ None → length xs ≤ position_or_len p xs
+nowhere p xs h = grind (arith, nat_tests)
 
 -- where no place is empty, every place is taken
-taken_all : {K V : Type 0} (ps : List (Option (Entry K V))) → length ps ≤ first is_empty ps → taken ps ≡ length ps
-unfolding first taken
+taken_all : {K V : Type 0} (ps : List (Option (Entry K V))) → length ps ≤ position_or_len is_empty ps → taken ps ≡ length ps
+unfolding taken
 taken_all [] h = refl
 taken_all (None ∷ ps) h = absurd (omega arith)
 taken_all (Some e ∷ ps) h = ap suc (taken_all ps (omega arith))
+
+value_none : {K V : Type 0} (p : Option (Entry K V)) → is_empty p ≡ true → value_of p ≡ None
+value_none None h = refl
+value_none (Some e) h = cc
 
 -- a place that has the key and the value
 abbrev holding : {K V : Type 0} → K → V → Option (Entry K V)
 holding k v = Some (record { key = k; value = v })
 
 module _ {K V : Type 0} (same : K → K → Bool) where
-  -- what stands under a key is the value of the first place that has it
-  lookup_at : (ps : List (Option (Entry K V))) (k : K) → lookup same ps k ≡ value_of (get_or ps (first (hit same k) ps) None)
-  unfolding first lookup
-  lookup_at [] k = refl
-  lookup_at (None ∷ ps) k = lookup_at ps k
-  lookup_at (Some e ∷ ps) k = elim (cases_Bool (same e.key k)) [ inl t ↦ rw t | inr f ↦ rw f (lookup_at ps k) ]
+  -- what stands under a key, as the first of the taken places that has it
+  pub lookup-find : (ps : List (Option (Entry K V))) (k : K) → lookup same ps k ≡ option_map (λ e. e.value) (find (λ e. same e.key k) (flat_map option_to_list ps))
+  unfolding lookup
+  lookup-find [] k = refl
+  lookup-find (None ∷ ps) k = lookup-find ps k
+  lookup-find (Some e ∷ ps) k = elim (cases_Bool (same e.key k)) [ inl t ↦ rw t refl | inr f ↦ rw f (lookup-find ps k) ]
 
-  -- the same, where the search answered n and x stands there
-  pub lookup_found : (n : ℕ) (x : Option (Entry K V)) (ps : List (Option (Entry K V))) (k : K) → n ≡ first (hit same k) ps → n < length ps → x ≡ get_or ps n x → value_of x ≡ lookup same ps k
-  lookup_found n x ps k at known read = ap value_of (get_or_read ps n x known read None ∙ ap (λ m. get_or ps m None) at) ∙ sym (lookup_at ps k)
+  -- what stands under a key, a place at a time
+  lookup-cons : (k : K) (p : Option (Entry K V)) (ps : List (Option (Entry K V))) → lookup same (p ∷ ps) k ≡ cond (hit same k p) (value_of p) (lookup same ps k)
+  unfolding lookup
+  lookup-cons k None ps = refl
+  lookup-cons k (Some e) ps = refl
 
   -- under a key that no place has stands nothing
-  pub lookup_none : (ps : List (Option (Entry K V))) (k : K) → length ps ≤ first (hit same k) ps → lookup same ps k ≡ None
-  lookup_none ps k h = lookup_at ps k ∙ ap value_of (get_or_past ps (first (hit same k) ps) None h)
+  lookup_none : (ps : List (Option (Entry K V))) (k : K) → position (hit same k) ps ≡ None → lookup same ps k ≡ None
+  unfolding lookup
+  lookup_none ps k h = found_nowhere (λ qs. lookup same qs k) (hit same k) value_of None refl (lookup-cons k) ps None (λ j l. fails_before_first (hit same k) ps j None (let past = nowhere (hit same k) ps h in omega arith))
 
-  -- a new key where no place is empty is refused, and nothing changes
-  pub refused_full : (ps : List (Option (Entry K V))) (k : K) → length ps ≤ first (hit same k) ps → length ps ≤ first is_empty ps → Refused same ps k ps
-  refused_full ps k n h = record { new = lookup_none ps k n; full = taken_all ps h; unchanged = refl }
+  -- where a search for a place ended with none, the key is new and every place taken
+  pub refused : (ps : List (Option (Entry K V))) (k : K) → option_or (position (hit same k) ps) (position is_empty ps) ≡ None → Refused same ps k ps
+  refused ps k none =
+      let (new, full) = or_none (position (hit same k) ps) (position is_empty ps) none in
+      record { new = lookup_none ps k new; full = taken_all ps (nowhere is_empty ps full); unchanged = refl }
 
   module _ (symmetric : (a b : K) → same a b ≡ true → same b a ≡ true) (transitive : (a b c : K) → same a b ≡ true → same b c ≡ true → same a c ≡ true) where
     -- an empty place before the store changes nothing
@@ -79,27 +96,31 @@ module _ {K V : Type 0} (same : K → K → Bool) where
     unfolding lookup taken
     over_empty ps k v new = record { answers = sym new; places = refl; finds = λ j. refl; takes = omega arith }
 
-    -- a store over the first place that has the key
-    at_known : (ps : List (Option (Entry K V))) (k : K) (v : V) → first (hit same k) ps < length ps → Stored same ps k v (lookup same ps k) (set ps (first (hit same k) ps) (holding k v))
-    unfolding first lookup
-    at_known [] k v known = absurd (omega arith)
-    at_known (None ∷ ps) k v known = past_empty (at_known ps k v (omega arith))
-    at_known (Some e ∷ ps) k v known =
-        elim (cases_Bool (same e.key k)) [
-          | inl t ↦ rw t (over_same e ps k v t)
-          | inr f ↦ rw f (past_other e f (at_known ps k v (let later = rw f at known in omega arith)))
+    -- a store at place i, which has the key or is empty, where what stands there is what stands under the key
+    at_place : (ps : List (Option (Entry K V))) (i : ℕ) (k : K) (v : V) (d : Option (Entry K V)) → i < length ps → ((j : ℕ) → j < i → hit same k (get_or ps j d) ≡ false)
+        → (hit same k (get_or ps i d) || is_empty (get_or ps i d)) ≡ true → lookup same ps k ≡ value_of (get_or ps i d) → Stored same ps k v (value_of (get_or ps i d)) (set ps i (holding k v))
+    unfolding lookup
+    at_place [] i k v d within before here found = absurd (omega arith)
+    at_place (None ∷ ps) zero k v d within before here found = over_empty ps k v found
+    at_place (Some e ∷ ps) zero k v d within before here found = over_same e ps k v (grind arith)
+    at_place (None ∷ ps) (suc i) k v d within before here found = past_empty (at_place ps i k v d (omega arith) (λ j l. before (suc j) (omega arith)) here found)
+    at_place (Some e ∷ ps) (suc i) k v d within before here found =
+        let other = before 0 (omega arith) in past_other e other (at_place ps i k v d (omega arith) (λ j l. before (suc j) (omega arith)) here (rw other at found))
+
+    -- a store where the search for a place ended
+    stored_at : (ps : List (Option (Entry K V))) (i : ℕ) (k : K) (v : V) (d : Option (Entry K V)) → option_or (position (hit same k) ps) (position is_empty ps) ≡ Some i → Stored same ps k v (value_of (get_or ps i d)) (set ps i (holding k v))
+    unfolding lookup
+    stored_at ps i k v d at =
+        elim (or_some (position (hit same k) ps) (position is_empty ps) i at) [
+          | inl known ↦
+              let (within, here, before) = position-Some (hit same k) ps i d known in
+              at_place ps i k v d within before (grind arith) (found_at (λ qs. lookup same qs k) (hit same k) value_of None refl (lookup-cons k) ps i d within before here)
+          | inr (new, free) ↦
+              let (within, here, before) = position-Some is_empty ps i d free in
+              let past = nowhere (hit same k) ps new in
+              at_place ps i k v d within (λ j l. fails_before_first (hit same k) ps j d (omega arith)) (grind arith) (lookup_none ps k new ∙ sym (value_none (get_or ps i d) here))
         ]
 
-    -- a store of a new key over the first empty place
-    at_new : (ps : List (Option (Entry K V))) (k : K) (v : V) → lookup same ps k ≡ None → first is_empty ps < length ps → Stored same ps k v None (set ps (first is_empty ps) (holding k v))
-    unfolding first lookup
-    at_new [] k v new room = absurd (omega arith)
-    at_new (None ∷ ps) k v new room = over_empty ps k v new
-    at_new (Some e ∷ ps) k v new room = past_other e (grind arith) (at_new ps k v (grind arith) (omega arith))
-
-    -- the two stores, at the number that a search answered
-    pub stored_known : (n : ℕ) (ps : List (Option (Entry K V))) (k : K) (v : V) (earlier : Option V) → n ≡ first (hit same k) ps → n < length ps → earlier ≡ lookup same ps k → Stored same ps k v earlier (set ps n (holding k v))
-    stored_known n ps k v earlier at known answer = rw (at, answer) (at_known ps k v (omega arith))
-
-    pub stored_new : (n : ℕ) (ps : List (Option (Entry K V))) (k : K) (v : V) (earlier : Option V) → length ps ≤ first (hit same k) ps → n ≡ first is_empty ps → n < length ps → earlier ≡ lookup same ps k → Stored same ps k v earlier (set ps n (holding k v))
-    stored_new n ps k v earlier absent at room answer = let new = lookup_none ps k absent in rw (at, answer, new) (at_new ps k v new (omega arith))
+    -- the same, by what was read and written there
+    pub stored : (ps : List (Option (Entry K V))) (i : ℕ) (k : K) (v : V) (old new : Option (Entry K V)) (earlier : Option V) → option_or (position (hit same k) ps) (position is_empty ps) ≡ Some i → old ≡ get_or ps i old → new ≡ holding k v → earlier ≡ value_of old → Stored same ps k v earlier (set ps i new)
+    stored ps i k v old new earlier some read written answer = rw (written, answer ∙ ap value_of read) (stored_at ps i k v old some)

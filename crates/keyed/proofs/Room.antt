@@ -1,9 +1,10 @@
 -- What inserts into empty places leave: how many places there are, how many are taken at most, and nothing under a key that differs from theirs.
-use Rattle.std.proofs.Common.{◌≡◌, ℕ, zero, suc, ◌≤◌, Bool, List, [], ◌∷◌, length, replicate, Some, None, Ok, Err, Option, refl, ap, ◌∙◌, arith}
+use Rattle.std.proofs.Common.{◌≡◌, ℕ, zero, suc, ◌≤◌, Bool, List, [], ◌∷◌, length, replicate, Some, None, Ok, Err, Option, Result, refl, ap, ◌∙◌, arith}
+use Rattle.std.specs.Result.{IsErr}
 use lib.ListN.{length-replicate}
 use Rattle.keyed.specs.declared.Entry.{Entry}
 use Rattle.keyed.specs.declared.Full.{Full}
-use Rattle.keyed.specs.Lookup.{lookup, taken, places_more, Stored, Refused, Filled, Different, NeverRefused}
+use Rattle.keyed.specs.Lookup.{lookup, taken, places_more, Stored, Refused, Filled, Different, NeverRefused, Inserts}
 
 -- an insert takes at most one place
 places_more_le : {V : Type 0} (earlier : Option V) → places_more earlier ≤ 1
@@ -43,5 +44,10 @@ module _ {K V : Type 0} (same : K → K → Bool) where
   room_stored {ps} {qs} {k} s n ks f h = (refl, λ d. ap Ok (s.answers ∙ filled_lookup n ks ps k f d))
 
   -- an insert is refused only after as many as there are places
-  pub room_refused : {ps qs : List (Option (Entry K V))} {k : K} → Refused same ps k qs → (e : Full) → NeverRefused same ps k (Err e)
-  room_refused {ps} s e n ks f h = absurd (omega (arith, s.full, filled_length n ks ps f, filled_taken n ks ps f))
+  pub room_refused : {ps qs : List (Option (Entry K V))} {k : K} → Refused same ps k qs → (r : Result (Option V) Full) → IsErr r → NeverRefused same ps k r
+  room_refused {ps} s r e n ks f h = absurd (omega (arith, s.full, filled_length n ks ps f, filled_taken n ks ps f))
+
+  -- and it changes nothing
+  pub effect_refused : {ps qs : List (Option (Entry K V))} {k : K} (v : V) → Refused same ps k qs → (r : Result (Option V) Full) → IsErr r → Inserts same ps k v r qs
+  effect_refused v s (Ok x) e = cc
+  effect_refused v s (Err x) e = s

@@ -4,11 +4,6 @@ use Rattle.keyed.specs.declared.Entry.{Entry}
 use Rattle.keyed.specs.declared.Full.{Full}
 use Rattle.keyed.specs.declared.Subresource.{Subresource}
 
--- the place of the first element that passes; the length where none does
-unfoldable pub first : {X : Type 0} → (X → Bool) → List X → ℕ
-first p [] = 0
-first p (x ∷ xs) = cond (p x) 0 (suc (first p xs))
-
 -- whether a place has the key
 abbrev pub hit : {K V : Type 0} (same : K → K → Bool) → K → Option (Entry K V) → Bool
 hit same k None = false

@@ -1,8 +1,8 @@
 // The map: its places are a slice that the caller lends, and it is written once, for every lawful key.
 #![tactic(auto)]
 
-ghost use Rattle.std.specs.Prelude.{◌≡◌, ◌≤◌, Bool, true, length, ◌==◌};
-ghost use Rattle.keyed.specs.Lookup.{first, hit, is_empty, value_of, lookup, Inserts, NeverRefused, same_subresource};
+ghost use Rattle.std.specs.Prelude.{◌≡◌, Bool, true, ◌==◌, position};
+ghost use Rattle.keyed.specs.Lookup.{hit, is_empty, lookup, Inserts, NeverRefused, same_subresource};
 ghost use Rattle.std.proofs.Common.{rules};
 
 // What the map asks of a key: a sameness with three laws, and a test for it.
@@ -20,7 +20,7 @@ pub trait Key: Copy {
 }
 
 // What a place that is taken holds.
-#[derive(Clone, Copy)]
+#[derive(Clone, Copy, PartialEq, Eq, Debug)]
 pub struct Entry<K, V> {
     pub key: K,
     pub value: V,
@@ -30,70 +30,36 @@ pub struct Entry<K, V> {
 #[derive(Clone, Copy, PartialEq, Eq, Debug)]
 pub struct Full;
 
-// Whether the place has the key.
+// Whether the place has the key. It is a function, since this closure inside that of `position` left the goal open.
 fn has<K: Key, V: Copy>(place: &Option<Entry<K, V>>, key: &K) -> bool
     ensures { result ≡ hit K.Key.same key.now place.now }
 {
-    match place {
-        Some(e) => e.key.is_same(key),
-        None => false,
-    }
+    place.is_some_and(|entry| entry.key.is_same(key))
 }
 
-fn is_empty<K: Copy, V: Copy>(place: &Option<Entry<K, V>>) -> bool
-    ensures { result ≡ is_empty place.now }
+// The first place that has the key.
+fn place_of<K: Key, V: Copy>(places: &[Option<Entry<K, V>>], key: &K) -> Option<usize>
+    ensures { result ≡ position (hit K.Key.same key.now) places.now }
 {
-    match place {
-        Some(_) => false,
-        None => true,
-    }
+    places.iter().position(|place| has(place, key))
 }
 
-// The value of a place.
-fn value_at<K: Copy, V: Copy>(place: &Option<Entry<K, V>>) -> Option<V>
-    ensures { result ≡ value_of place.now }
+fn first_empty<K: Copy, V: Copy>(places: &[Option<Entry<K, V>>]) -> Option<usize>
+    ensures { result ≡ position is_empty places.now }
 {
-    match place {
-        Some(e) => Some(e.value),
-        None => None,
-    }
-}
-
-// The first place that has the key; the number of places where there is none.
-fn find_key<K: Key, V: Copy>(places: &[Option<Entry<K, V>>], key: &K) -> usize
-    ensures at { result ≡ first (hit K.Key.same key.now) places.now }
-    ensures within { result ≤ length places.now }
-{
-    for (i, place) in places.iter().enumerate() {
-        if has(place, key) {
-            return i;
-        }
-    }
-    places.len()
-}
-
-// The first empty place; the number of places where there is none.
-fn find_empty<K: Copy, V: Copy>(places: &[Option<Entry<K, V>>]) -> usize
-    ensures at { result ≡ first is_empty places.now }
-    ensures within { result ≤ length places.now }
-{
-    for (i, place) in places.iter().enumerate() {
-        if is_empty(place) {
-            return i;
-        }
-    }
-    places.len()
+    places.iter().position(|place| place.is_none())
 }
 
 // The value that stands under the key.
 pub fn get<K: Key, V: Copy>(places: &[Option<Entry<K, V>>], key: &K) -> Option<V>
     ensures { result ≡ lookup K.Key.same places.now key.now }
 {
-    let at = find_key(places, key);
-    if at >= places.len() {
-        return None;
-    }
-    value_at(&places[at])
+    places
+        .iter()
+        .copied()
+        .flatten()
+        .find(|entry| entry.key.is_same(key))
+        .map(|entry| entry.value)
 }
 
 // Puts the value under the key, and answers the earlier one; a new key is refused where every place is taken.
@@ -105,18 +71,11 @@ pub fn insert<K: Key, V: Copy>(
     ensures effect { Inserts K.Key.same places.old key value result places.new }
     ensures room { NeverRefused K.Key.same places.old key result }
 {
-    let earlier = get(places, &key);
-    let at = find_key(places, &key);
-    if at < places.len() {
-        places[at] = Some(Entry { key, value });
-        return Ok(earlier);
-    }
-    let free = find_empty(places);
-    if free < places.len() {
-        places[free] = Some(Entry { key, value });
-        return Ok(earlier);
-    }
-    Err(Full)
+    let at = place_of(places, &key)
+        .or_else(|| first_empty(places))
+        .ok_or(Full)?;
+    let earlier = places[at].replace(Entry { key, value });
+    Ok(earlier.map(|entry| entry.value))
 }
 
 // A location number is a key.
@@ -152,7 +111,7 @@ impl Key for Subresource {
     ghost transitive = { Prim.search rules };
 
     fn is_same(&self, other: &Subresource) -> bool {
-        self.texture == other.texture && self.mip == other.mip && self.layer == other.layer
+        self == other
     }
 }
 

@@ -23,25 +23,23 @@ const COLOR: VertexAttribute = VertexAttribute {
     shader_location: 1,
 };
 
-const STRIDE_16: Option<VertexBufferLayout> = Some(VertexBufferLayout {
+const SLOT: VertexBufferLayout = VertexBufferLayout {
     array_stride: 16,
     step_mode: VertexStepMode::Vertex,
     first: 0,
     count: 1,
-});
+};
+
+const STRIDE_16: Option<VertexBufferLayout> = Some(SLOT);
 
 const STRIDE_0: Option<VertexBufferLayout> = Some(VertexBufferLayout {
     array_stride: 0,
-    step_mode: VertexStepMode::Vertex,
-    first: 0,
-    count: 1,
+    ..SLOT
 });
 
 const LONGEST: Option<VertexBufferLayout> = Some(VertexBufferLayout {
     array_stride: 536_870_912,
-    step_mode: VertexStepMode::Vertex,
-    first: 0,
-    count: 1,
+    ..SLOT
 });
 
 // For the panel: layouts without a fault.
@@ -49,12 +47,7 @@ pub const ACCEPTED: [Sample<'static>; 7] = [
     Sample {
         name: "a bead: position and color",
         vertex: VertexState {
-            buffers: &[Some(VertexBufferLayout {
-                array_stride: 16,
-                step_mode: VertexStepMode::Vertex,
-                first: 0,
-                count: 2,
-            })],
+            buffers: &[Some(VertexBufferLayout { count: 2, ..SLOT })],
             attributes: &[POSITION, COLOR],
         },
     },
@@ -62,18 +55,13 @@ pub const ACCEPTED: [Sample<'static>; 7] = [
         name: "a bead, set down once for each instance",
         vertex: VertexState {
             buffers: &[
-                Some(VertexBufferLayout {
-                    array_stride: 16,
-                    step_mode: VertexStepMode::Vertex,
-                    first: 0,
-                    count: 2,
-                }),
+                Some(VertexBufferLayout { count: 2, ..SLOT }),
                 None,
                 Some(VertexBufferLayout {
                     array_stride: 8,
                     step_mode: VertexStepMode::Instance,
                     first: 2,
-                    count: 1,
+                    ..SLOT
                 }),
             ],
             attributes: &[
@@ -92,9 +80,8 @@ pub const ACCEPTED: [Sample<'static>; 7] = [
         vertex: VertexState {
             buffers: &[STRIDE_16],
             attributes: &[VertexAttribute {
-                format: VertexFormat::Float32x3,
                 offset: 4,
-                shader_location: 0,
+                ..POSITION
             }],
         },
     },
@@ -114,9 +101,8 @@ pub const ACCEPTED: [Sample<'static>; 7] = [
         vertex: VertexState {
             buffers: &[Some(VertexBufferLayout {
                 array_stride: 32,
-                step_mode: VertexStepMode::Vertex,
-                first: 0,
                 count: 2,
+                ..SLOT
             })],
             attributes: &[
                 VertexAttribute {
@@ -137,9 +123,8 @@ pub const ACCEPTED: [Sample<'static>; 7] = [
         vertex: VertexState {
             buffers: &[Some(VertexBufferLayout {
                 array_stride: 4,
-                step_mode: VertexStepMode::Vertex,
-                first: 0,
                 count: 0,
+                ..SLOT
             })],
             attributes: &[],
         },
@@ -161,10 +146,9 @@ pub const REFUSED: [Sample<'static>; 12] = [
             buffers: &[
                 STRIDE_16,
                 Some(VertexBufferLayout {
-                    array_stride: 16,
-                    step_mode: VertexStepMode::Vertex,
                     first: 1,
                     count: 2,
+                    ..SLOT
                 }),
             ],
             attributes: &[POSITION, COLOR],
@@ -174,10 +158,9 @@ pub const REFUSED: [Sample<'static>; 12] = [
         name: "a part of none, past the list",
         vertex: VertexState {
             buffers: &[Some(VertexBufferLayout {
-                array_stride: 16,
-                step_mode: VertexStepMode::Vertex,
                 first: 2,
                 count: 0,
+                ..SLOT
             })],
             attributes: &[POSITION],
         },
@@ -194,9 +177,7 @@ pub const REFUSED: [Sample<'static>; 12] = [
         vertex: VertexState {
             buffers: &[Some(VertexBufferLayout {
                 array_stride: 2_052,
-                step_mode: VertexStepMode::Vertex,
-                first: 0,
-                count: 1,
+                ..SLOT
             })],
             attributes: &[POSITION],
         },
@@ -206,9 +187,7 @@ pub const REFUSED: [Sample<'static>; 12] = [
         vertex: VertexState {
             buffers: &[Some(VertexBufferLayout {
                 array_stride: 6,
-                step_mode: VertexStepMode::Vertex,
-                first: 0,
-                count: 1,
+                ..SLOT
             })],
             attributes: &[POSITION],
         },
@@ -218,9 +197,8 @@ pub const REFUSED: [Sample<'static>; 12] = [
         vertex: VertexState {
             buffers: &[STRIDE_16],
             attributes: &[VertexAttribute {
-                format: VertexFormat::Float32x3,
                 offset: 8,
-                shader_location: 0,
+                ..POSITION
             }],
         },
     },

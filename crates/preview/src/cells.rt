@@ -33,9 +33,11 @@ impl fmt::Display for Cost {
         let Some(cost) = self.0 else {
             return f.write_str("none");
         };
-        let bytes = cost.pixel_byte_cost;
-        let alignment = cost.component_alignment;
-        write!(f, "{bytes}, aligned to {alignment}")
+        write!(
+            f,
+            "{}, aligned to {}",
+            cost.pixel_byte_cost, cost.component_alignment
+        )
     }
 }
 
@@ -46,11 +48,7 @@ impl fmt::Display for Uses {
     fn fmt<W: fmt::Write>(&self, f: &mut fmt::Formatter<W>) -> fmt::Result {
         let features = match self.0 {
             Ok(features) => features,
-            Err(fault) => {
-                let number = fault.number();
-                let lacking = fault.0;
-                return write!(f, "fault {number}, lacks {lacking}");
-            }
+            Err(fault) => return write!(f, "fault {}, lacks {}", fault.number(), fault.0),
         };
         if !features.renderable {
             return f.write_str("not renderable");

@@ -40,31 +40,25 @@ const WORKSHOP: RequiredLimits = RequiredLimits {
 
 // One buffer more than any device may have.
 const ABOVE: RequiredLimits = RequiredLimits {
-    max_color_attachments: 8,
     max_vertex_buffers: 17,
-    max_vertex_attributes: 16,
-    max_vertex_buffer_array_stride: 2_048,
-    max_color_attachment_bytes_per_sample: 32,
+    ..PANEL
 };
 
 fn show_slot(rt: &HostRuntime, index: usize, slot: Option<VertexBufferLayout>) -> io::Result<()> {
-    let Some(s) = slot else {
+    let Some(slot) = slot else {
         return println!(rt; "   buffer {index}: empty");
     };
-    let stride = s.array_stride;
-    let mode = s.step_mode;
-    let first = s.first;
-    let count = s.count;
     println!(rt;
-        "   buffer {index}: stride {stride}, by {mode}, attributes: {count} from place {first}"
+        "   buffer {index}: stride {}, by {}, attributes: {} from place {}",
+        slot.array_stride, slot.step_mode, slot.count, slot.first
     )
 }
 
 fn show_attribute(rt: &HostRuntime, index: usize, a: &VertexAttribute) -> io::Result<()> {
-    let format = a.format;
-    let offset = a.offset;
-    let location = a.shader_location;
-    println!(rt; "   attribute {index}: {format:?} at {offset}, location {location}")
+    println!(rt;
+        "   attribute {index}: {:?} at {}, location {}",
+        a.format, a.offset, a.shader_location
+    )
 }
 
 fn show_state(rt: &HostRuntime, vertex: &VertexState) -> io::Result<()> {
@@ -77,33 +71,28 @@ fn show_state(rt: &HostRuntime, vertex: &VertexState) -> io::Result<()> {
     Ok(())
 }
 
-fn show_step(rt: &HostRuntime, index: usize, step: Option<VertexStep>) -> io::Result<()> {
-    if let Some(s) = step {
-        let stride = s.stride;
-        let last_stride = s.last_stride;
-        let mode = s.mode;
-        println!(rt; "     step {index}: stride {stride}, last_stride {last_stride}, by {mode}")?;
-    }
-    Ok(())
+fn show_step(rt: &HostRuntime, index: usize, step: &VertexStep) -> io::Result<()> {
+    println!(rt;
+        "     step {index}: stride {}, last_stride {}, by {}",
+        step.stride, step.last_stride, step.mode
+    )
 }
 
 // Judges a layout, and prints it with its verdict: the steps that are kept, or the fault's number and words.
 fn judge(rt: &HostRuntime, device: &Device, sample: &Sample) -> io::Result<()> {
-    let name = sample.name;
-    println!(rt; "-- {name}")?;
+    println!(rt; "-- {}", sample.name)?;
     show_state(rt, &sample.vertex)?;
     match check_vertex_state(device, &sample.vertex) {
         Ok(steps) => {
             println!(rt; "   accepted")?;
             for (i, step) in steps.iter().enumerate() {
-                show_step(rt, i, *step)?;
+                if let Some(step) = step {
+                    show_step(rt, i, step)?;
+                }
             }
             Ok(())
         }
-        Err(fault) => {
-            let number = fault.number();
-            println!(rt; "   refused, fault {number}: {fault}")
-        }
+        Err(fault) => println!(rt; "   refused, fault {}: {fault}", fault.number()),
     }
 }
 
@@ -121,11 +110,11 @@ fn ask(
     required: &RequiredLimits,
     features: Features,
 ) -> io::Result<Option<Device>> {
-    let buffers = required.max_vertex_buffers;
-    let attributes = required.max_vertex_attributes;
-    let stride = required.max_vertex_buffer_array_stride;
     println!(rt;
-        "== {name}: {buffers} vertex buffers, {attributes} vertex attributes, strides to {stride}"
+        "== {name}: {} vertex buffers, {} vertex attributes, strides to {}",
+        required.max_vertex_buffers,
+        required.max_vertex_attributes,
+        required.max_vertex_buffer_array_stride
     )?;
     match Limits::new(required) {
         Ok(limits) => Ok(Some(Device {
@@ -134,8 +123,7 @@ fn ask(
             downlevel: DownlevelFlags::from_bits_retain(7),
         })),
         Err(fault) => {
-            let number = fault.number();
-            println!(rt; "   refused, fault {number}: {fault}")?;
+            println!(rt; "   refused, fault {}: {fault}", fault.number())?;
             Ok(None)
         }
     }

@@ -9,129 +9,110 @@
 
 mod table;
 
-use anyhow::anyhow;
+use anyhow::{Context, anyhow};
 use descriptor::vertex::{VertexAttribute, VertexBufferLayout, VertexState, VertexStepMode};
 use device::Device;
 use device::ceilings::RequiredLimits;
 use device::limits::Limits;
 use formats::features::{DownlevelFlags, Features};
 use std::alloc::Global;
-use std::io;
 use std::io::BufRead;
+use std::{io, vec};
 use table::FORMATS;
 use vertex::error::VertexStateError;
 use vertex::layout::check_vertex_state;
 use vertex::step::VertexStep;
 
-// The numbers of a line, and the place of the next.
+// The numbers of a line that are still to be read.
 #[derive(Drop)]
 struct Numbers {
-    numbers: Vec<u64>,
-    at: usize,
+    rest: vec::IntoIter<u64>,
 }
 
 impl Numbers {
+    // The whole line is read before any number of it is used.
     fn read(heap: Global, text: &str) -> anyhow::Result<Numbers> {
-        let mut numbers = Vec::new(heap);
-        for word in text.split_whitespace() {
-            numbers.push(word.parse::<u64>()?)?;
-        }
-        Ok(Numbers { numbers, at: 0 })
+        let numbers: Vec<u64> = text
+            .split_whitespace()
+            .map(|word| -> anyhow::Result<u64> { Ok(word.parse()?) })
+            .try_collect(heap)?;
+        Ok(Numbers {
+            rest: numbers.into_iter(),
+        })
     }
 
     // The next number, of 64 bits or of 32.
     fn next_u64(&mut self) -> anyhow::Result<u64> {
-        let Some(n) = self.numbers.get(self.at).copied() else {
-            return Err(anyhow!("a number is missing"));
-        };
-        self.at = self.at.saturating_add(1);
-        Ok(n)
+        self.rest.next().context("a number is missing")
     }
 
     fn next_u32(&mut self) -> anyhow::Result<u32> {
         Ok(u32::try_from(self.next_u64()?)?)
     }
 
+    // A count, and then as many items.
+    fn list<T: Drop, F: FnMut(&mut Numbers) -> anyhow::Result<T>>(
+        &mut self,
+        heap: Global,
+        mut item: F,
+    ) -> anyhow::Result<Vec<T>>
+        requires { F.IsAlwaysCallable item }
+    {
+        let mut items = Vec::new(heap);
+        for _ in 0..self.next_u64()? {
+            items.push(item(self)?)?;
+        }
+        Ok(items)
+    }
+
     fn slot(&mut self) -> anyhow::Result<Option<VertexBufferLayout>> {
         if self.next_u64()? == 0 {
             return Ok(None);
         }
-        let array_stride = self.next_u64()?;
-        let step_mode = if self.next_u64()? == 0 {
-            VertexStepMode::Vertex
-        } else {
-            VertexStepMode::Instance
-        };
-        let first = self.next_u32()?;
-        let count = self.next_u32()?;
         Ok(Some(VertexBufferLayout {
-            array_stride,
-            step_mode,
-            first,
-            count,
+            array_stride: self.next_u64()?,
+            step_mode: match self.next_u64()? {
+                0 => VertexStepMode::Vertex,
+                _ => VertexStepMode::Instance,
+            },
+            first: self.next_u32()?,
+            count: self.next_u32()?,
         }))
     }
 
-    fn slots(&mut self, heap: Global) -> anyhow::Result<Vec<Option<VertexBufferLayout>>> {
-        let mut slots = Vec::new(heap);
-        for _ in 0..self.next_u64()? {
-            slots.push(self.slot()?)?;
-        }
-        Ok(slots)
-    }
-
     fn attribute(&mut self) -> anyhow::Result<VertexAttribute> {
-        let place = self.next_u64()?;
-        let Some(format) = FORMATS.get(usize::try_from(place)?).copied() else {
-            return Err(anyhow!("there is no such format"));
-        };
+        let place = usize::try_from(self.next_u64()?)?;
         Ok(VertexAttribute {
-            format,
+            format: *FORMATS.get(place).context("there is no such format")?,
             offset: self.next_u64()?,
             shader_location: self.next_u32()?,
         })
     }
 
-    fn attributes(&mut self, heap: Global) -> anyhow::Result<Vec<VertexAttribute>> {
-        let mut attributes = Vec::new(heap);
-        for _ in 0..self.next_u64()? {
-            attributes.push(self.attribute()?)?;
-        }
-        Ok(attributes)
-    }
-}
-
-// The device of a line.
-fn read_device(numbers: &mut Numbers) -> anyhow::Result<Device> {
-    let required = RequiredLimits {
-        max_color_attachments: 8,
-        max_vertex_buffers: numbers.next_u32()?,
-        max_vertex_attributes: numbers.next_u32()?,
-        max_vertex_buffer_array_stride: numbers.next_u32()?,
-        max_color_attachment_bytes_per_sample: 128,
-    };
-    let features = Features::from_bits_retain(numbers.next_u32()?);
-    match Limits::new(&required) {
-        Ok(limits) => Ok(Device {
+    fn device(&mut self) -> anyhow::Result<Device> {
+        let required = RequiredLimits {
+            max_color_attachments: 8,
+            max_vertex_buffers: self.next_u32()?,
+            max_vertex_attributes: self.next_u32()?,
+            max_vertex_buffer_array_stride: self.next_u32()?,
+            max_color_attachment_bytes_per_sample: 128,
+        };
+        let features = Features::from_bits_retain(self.next_u32()?);
+        let limits = Limits::new(&required).map_err(|_| anyhow!("a limit above its ceiling"))?;
+        Ok(Device {
             limits,
             features,
             downlevel: DownlevelFlags::from_bits_retain(7),
-        }),
-        Err(_) => Err(anyhow!("a limit above its ceiling")),
+        })
     }
 }
 
 fn show_step(rt: &HostRuntime, step: Option<VertexStep>) -> io::Result<()> {
-    let Some(s) = step else {
+    let Some(step) = step else {
         return print!(rt; " 0");
     };
-    let stride = s.stride;
-    let last_stride = s.last_stride;
-    let mode = match s.mode {
-        VertexStepMode::Vertex => 0,
-        VertexStepMode::Instance => 1,
-    };
-    print!(rt; " 1 {stride} {last_stride} {mode}")
+    let mode = u8::from(step.mode == VertexStepMode::Instance);
+    print!(rt; " 1 {} {} {mode}", step.stride, step.last_stride)
 }
 
 fn show_fault(rt: &HostRuntime, fault: &VertexStateError) -> io::Result<()> {
@@ -141,15 +122,17 @@ fn show_fault(rt: &HostRuntime, fault: &VertexStateError) -> io::Result<()> {
             index,
             given,
             limit,
-        } => println!(rt; "{number} {index} {given} {limit}"),
-        VertexStateError::TooManyVertexBuffers { given, limit } => println!(rt;
-            "{number} {given} {limit}"
-        ),
-        VertexStateError::VertexStrideTooLarge {
+        }
+        | VertexStateError::VertexStrideTooLarge {
             index,
             given,
             limit,
         } => println!(rt; "{number} {index} {given} {limit}"),
+        VertexStateError::TooManyVertexBuffers { given, limit }
+        | VertexStateError::VertexAttributeLocationTooLarge { given, limit }
+        | VertexStateError::TooManyVertexAttributes { given, limit } => println!(rt;
+            "{number} {given} {limit}"
+        ),
         VertexStateError::UnalignedVertexStride { index, stride } => println!(rt;
             "{number} {index} {stride}"
         ),
@@ -161,13 +144,7 @@ fn show_fault(rt: &HostRuntime, fault: &VertexStateError) -> io::Result<()> {
         VertexStateError::InvalidVertexAttributeOffset { location, offset } => println!(rt;
             "{number} {location} {offset}"
         ),
-        VertexStateError::VertexAttributeLocationTooLarge { given, limit } => println!(rt;
-            "{number} {given} {limit}"
-        ),
         VertexStateError::ShaderLocationClash(location) => println!(rt; "{number} {location}"),
-        VertexStateError::TooManyVertexAttributes { given, limit } => println!(rt;
-            "{number} {given} {limit}"
-        ),
         VertexStateError::MissingFeatures(_) => println!(rt; "{number}"),
     }
 }
@@ -187,21 +164,19 @@ fn show_answer(rt: &HostRuntime, device: &Device, vertex: &VertexState) -> io::R
 
 fn replay(rt: &HostRuntime, text: &str) -> anyhow::Result<()> {
     let mut numbers = Numbers::read(rt.alloc(), text)?;
-    let device = read_device(&mut numbers)?;
-    let buffers = numbers.slots(rt.alloc())?;
-    let attributes = numbers.attributes(rt.alloc())?;
+    let device = numbers.device()?;
+    let buffers = numbers.list(rt.alloc(), Numbers::slot)?;
+    let attributes = numbers.list(rt.alloc(), Numbers::attribute)?;
     let vertex = VertexState {
         buffers: &buffers,
         attributes: &attributes,
     };
-    show_answer(rt, &device, &vertex)?;
-    Ok(())
+    Ok(show_answer(rt, &device, &vertex)?)
 }
 
 fn main(rt: HostRuntime) -> anyhow::Result<()> {
     for line in io::BufReader::new(rt.alloc(), rt.stdin())?.lines(rt.alloc()) {
-        let text = line?;
-        replay(&rt, text.as_str())?;
+        replay(&rt, &line?)?;
     }
     Ok(())
 }

@@ -1,19 +1,24 @@
-use Rattle.std.proofs.Common.{arith}
-use Rattle.keyed.proofs.Places.{stored_known, stored_new, refused_full}
-use Rattle.keyed.proofs.Room.{room_stored, room_refused}
+use Rattle.std.proofs.Common.{◌≡◌, Some, None, position, rules}
+use Rattle.std.specs.Option.{option_or}
+use Rattle.keyed.specs.Lookup.{hit, is_empty, value_of}
+use Rattle.keyed.proofs.Places.{refused, stored}
+use Rattle.keyed.proofs.Room.{room_stored, room_refused, effect_refused}
 use Rattle.keyed.proofs.insert.Goals as goal
 
-pub returns-then-at-places : goal.returns-then-at-places
-returns-then-at-places g c =
-    let stored = stored_known g.K.Key.same g.met.K.Key.symmetric g.met.K.Key.transitive c.find_key-at.result c.args.places.now c.args.key c.args.value c.get-earlier.result c.find_key-at.ensures.at c.if-at-places.true c.get-earlier.ensures in
-    record { effect = stored; room = room_stored g.K.Key.same stored }
-
-pub returns-then-free-places : goal.returns-then-free-places
-returns-then-free-places g c =
-    let stored = stored_new g.K.Key.same g.met.K.Key.symmetric g.met.K.Key.transitive c.find_empty-free.result c.args.places.now c.args.key c.args.value c.get-earlier.result (omega arith) c.find_empty-free.ensures.at c.if-free-places.true c.get-earlier.ensures in
-    record { effect = stored; room = room_stored g.K.Key.same stored }
+pub returns-in_err-at : goal.returns-in_err-at
+returns-in_err-at g c =
+    let places = c.args.places.now in
+    let none : option_or (position (hit g.K.Key.same c.args.key) places) (position is_empty places) ≡ None = search rules in
+    let full = refused g.K.Key.same places c.args.key none in
+    record {
+      effect = effect_refused g.K.Key.same c.args.value full c.from_residual.result c.from_residual.ensures.0;
+      room = room_refused g.K.Key.same full c.from_residual.result c.from_residual.ensures.0;
+    }
 
 pub returns : goal.returns
 returns g c =
-    let refused = refused_full g.K.Key.same c.args.places.now c.args.key (omega arith) (omega arith) in
-    record { effect = refused; room = room_refused g.K.Key.same refused _ }
+    let places = c.args.places.now in
+    let some : option_or (position (hit g.K.Key.same c.args.key) places) (position is_empty places) ≡ Some c.in_ok-at.at = search rules in
+    let answer : c.map.result ≡ value_of c.index-places-at.result = search rules in
+    let effect = stored g.K.Key.same g.met.K.Key.symmetric g.met.K.Key.transitive places c.in_ok-at.at c.args.key c.args.value c.index-places-at.result c.replace-earlier.new.self c.map.result some c.index-places-at.is c.replace-earlier.ensures.after answer in
+    record { effect = effect; room = room_stored g.K.Key.same effect }
