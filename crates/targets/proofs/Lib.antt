@@ -1,4 +1,5 @@
 pub mod Calls
+pub mod Verdicts
 pub mod Lawful
 pub mod Loops
 pub mod Pairs

@@ -1,9 +1,9 @@
 -- What the targets ask of each other: the loops, and what their verdicts mean.
-use Rattle.std.proofs.Common.{◌≡◌, ℕ, zero, suc, ◌+◌, ◌<◌, ◌≤◌, Bool, true, false, cond, ◌&&◌, ◌||◌, ltb, List, [], ◌∷◌, length, get_or, drop, Some, None, Option, sym, refl, ap, ◌∙◌, inl, inr, not-suc-le-zero, arith}
-use Rattle.std.specs.Option.{option_or}
-use Rattle.std.specs.List.{ContainsAt, AllByRecursion}
+use Rattle.std.proofs.Common.{◌≡◌, ℕ, zero, suc, ◌<◌, true, false, cond, ◌&&◌, ◌||◌, ltb, List, [], ◌∷◌, length, get_or, Some, None, Option, sym, refl, ap, subst, ◌∙◌, inl, inr, not-suc-le-zero, arith}
+use Rattle.std.specs.Option.{is_some}
+use Rattle.std.specs.List.{ContainsAt, AllByRecursion, list_any, list_all, find}
 use Rattle.std.proofs.ByRecursion.{all-has, all_has_itself, All-weaker, has_get_or}
-use Rattle.std.proofs.lemmas.List.{at_drop_more, at_drop_all}
+use Rattle.std.proofs.lemmas.List.Recursion.{same_from_clauses}
 use Rattle.std.proofs.lemmas.Bool.{cases_Bool, and_parts, and_from, and_cases, and_left, and_right, or_parts, or_cases, cond-true, cond-false, not-false, not_from_true, ltb-false, le-ltb, false≢true}
 use Rattle.faults.specs.Faults.{first_of, within, Judged}
 use Rattle.faults.proofs.Order.{or_none, not_if, if_not, judged}
@@ -22,33 +22,28 @@ use Rattle.targets.proofs.Calls.{Checked, passes}
 abbrev Targets : Type 0
 Targets = List (Option ColorTargetState)
 
--- one turn of the search for a second color
-module _ (targets : Targets) (i : ℕ) (x : Option ColorTargetState) (q : reads_second_any targets ≡ reads_second_any (drop i targets)) where
-  pub second_here : i < length targets → reads_second_at (get_or targets i x) ≡ true → true ≡ reads_second_any targets
-  second_here h t = sym (q ∙ at_drop_more reads_second_any targets i x h ∙ ap (λ b. b || reads_second_any (drop (i + 1) targets)) t)
+-- a search of all targets finds what a recursion over them finds
+pub any_second : (targets : Targets) → list_any reads_second_at targets ≡ reads_second_any targets
+any_second targets = same_from_clauses (list_any reads_second_at) reads_second_any (λ o b. reads_second_at o || b) refl (λ _ _. refl) (λ _ _. refl) targets
 
-  pub second_later : i < length targets → reads_second_at (get_or targets i x) ≡ false → reads_second_any targets ≡ reads_second_any (drop (i + 1) targets)
-  second_later h f = q ∙ at_drop_more reads_second_any targets i x h ∙ ap (λ b. b || reads_second_any (drop (i + 1) targets)) f
+-- each target against the first that is not empty
+all_like_first : (f : ColorTargetState) (targets : Targets) → list_all (like_first (Some f)) targets ≡ alike_after (Some f) targets
+all_like_first f targets = same_from_clauses (list_all (like_first (Some f))) (alike_after (Some f)) (λ o b. like_first (Some f) o && b) refl (λ _ _. refl) (λ _ _. refl) targets
 
-  pub second_nowhere : length targets ≤ i → false ≡ reads_second_any targets
-  second_nowhere h = sym (q ∙ at_drop_all reads_second_any targets i h)
+pub alike_without : (targets : Targets) → find is_some targets ≡ None → true ≡ alike_targets targets
+alike_without [] e = refl
+alike_without (None ∷ rest) e = alike_without rest e
+alike_without (Some f ∷ rest) e = cc
 
--- one turn of the comparison with the first target that is not empty
-module _ (targets : Targets) (i : ℕ) (x first : Option ColorTargetState) (q : alike_targets targets ≡ alike_after first (drop i targets)) where
-  abbrev o : Option ColorTargetState
-  o = get_or targets i x
-
-  unlike_so : i < length targets → (b : Bool) → like_first first o ≡ b → alike_targets targets ≡ (b && alike_after (option_or first o) (drop (i + 1) targets))
-  unlike_so h b e = q ∙ at_drop_more (alike_after first) targets i x h ∙ ap (λ l. l && alike_after (option_or first o) (drop (i + 1) targets)) e
-
-  pub unlike_here : i < length targets → like_first first o ≡ false → false ≡ alike_targets targets
-  unlike_here h f = sym (unlike_so h false f)
-
-  pub alike_so_far : i < length targets → like_first first o ≡ true → (next : Option ColorTargetState) → next ≡ option_or first o → alike_targets targets ≡ alike_after next (drop (i + 1) targets)
-  alike_so_far h t next n = unlike_so h true t ∙ ap (λ f. alike_after f (drop (i + 1) targets)) (sym n)
-
-  pub alike_all : length targets ≤ i → true ≡ alike_targets targets
-  alike_all h = sym (q ∙ at_drop_all (alike_after first) targets i h)
+pub alike_by_first : (first : Option ColorTargetState) (targets : Targets) → find is_some targets ≡ Some first → list_all (like_first first) targets ≡ alike_targets targets
+alike_by_first first [] e = cc
+alike_by_first None (None ∷ rest) e = alike_by_first None rest e
+alike_by_first (Some f) (None ∷ rest) e = alike_by_first (Some f) rest e
+alike_by_first first (Some f ∷ rest) e =
+    let itself : writes_like f f ≡ true = (alike f f).1 (refl, refl) in
+    let same : Some f ≡ first = cc in
+    subst (λ (o : Option ColorTargetState). list_all (like_first o) (Some f ∷ rest) ≡ alike_targets (Some f ∷ rest)) same
+    (ap (λ b. b && list_all (like_first (Some f)) rest) itself ∙ all_like_first f rest)
 
 -- all targets are alike exactly if each writes like the first that is not empty
 same_as : (f s t : ColorTargetState) → Alike f s → Alike f t → Alike s t
