@@ -14,6 +14,7 @@ use formats::texture::TextureFormat;
 
 pub mod guaranteed;
 pub mod listed;
+pub mod samples;
 
 // An adapter is its map from formats to answers. Asking changes nothing.
 pub trait Adapter {

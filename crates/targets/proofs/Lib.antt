@@ -1,4 +1,4 @@
-pub mod Calls
+pub mod Verdicts
 pub mod Lawful
 pub mod Loops
 pub mod Pairs

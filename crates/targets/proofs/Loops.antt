@@ -1,28 +1,25 @@
--- What is left of a loop's answer, from its state and the rest of its list, and one turn of it.
-use Rattle.std.proofs.Common.{◌≡◌, ℕ, ◌+◌, ◌<◌, List, length, get_or, drop, None, Ok, Err, Option, refl}
-use Rattle.faults.specs.Faults.{first_of}
-use Rattle.faults.proofs.Order.{lists_refused, lists_passed}
+-- One turn of the loop over the targets: a target, and those after it.
+use Rattle.std.proofs.Common.{◌≡◌, ℕ, ◌+◌, ◌<◌, ◌≤◌, List, length, get_or, drop, None, Option, ◌∙◌}
+use Rattle.std.proofs.lemmas.List.{at_drop_more, at_drop_all}
+use Rattle.faults.specs.Faults.{or_else, first_of}
+use Rattle.faults.proofs.Order.{first_of-append}
 use Rattle.device.specs.declared.Device.{Device}
 use Rattle.adapter.specs.Used.{Answers}
 use Rattle.descriptor.specs.declared.blend.ColorTargetState.{ColorTargetState}
 use Rattle.errors.specs.declared.create.CreateRenderPipelineError.{CreateRenderPipelineError}
 use Rattle.targets.specs.Order.{target_verdicts, targets_verdicts}
-use Rattle.targets.proofs.Calls.{Checked, passes}
+use Rattle.targets.proofs.Verdicts.{verdict_cases}
 
--- the targets from an index on
-abbrev pub targets_answer : Device → Answers → ℕ → ℕ → List (Option ColorTargetState) → Checked
-targets_answer d answers count index targets = passes (first_of (targets_verdicts d answers count index targets))
+-- the first fault of the targets from an index on
+abbrev pub fault_from : Device → Answers → ℕ → ℕ → List (Option ColorTargetState) → Option CreateRenderPipelineError
+fault_from d answers count i targets = first_of (targets_verdicts d answers count i (drop i targets))
 
-module _ (d : Device) (answers : Answers) (count : ℕ) (targets : List (Option ColorTargetState)) (i : ℕ) (h : i < length targets)
-    (whole : Checked) (q : whole ≡ targets_answer d answers count i (drop i targets)) where
-  abbrev here : List (Option CreateRenderPipelineError)
-  here = target_verdicts d answers count i (get_or targets i None)
+pub next_target : (d : Device) (answers : Answers) (count i : ℕ) (targets : List (Option ColorTargetState)) → i < length targets → fault_from d answers count i targets ≡ or_else (first_of (target_verdicts d answers count i (get_or targets i None))) (fault_from d answers count (i + 1) targets)
+next_target d answers count i targets h =
+    at_drop_more (λ ts. first_of (targets_verdicts d answers count i ts)) targets i None h
+    ∙ first_of-append (target_verdicts d answers count i (get_or targets i None)) (targets_verdicts d answers count (i + 1) (drop (i + 1) targets))
 
-  abbrev later : List (Option CreateRenderPipelineError)
-  later = targets_verdicts d answers count (i + 1) (drop (i + 1) targets)
+pub no_target : (d : Device) (answers : Answers) (count i : ℕ) (targets : List (Option ColorTargetState)) → length targets ≤ i → fault_from d answers count i targets ≡ None
+no_target d answers count i targets h = at_drop_all (λ ts. first_of (targets_verdicts d answers count i ts)) targets i h
 
-  pub target_refuses : (e : CreateRenderPipelineError) → Err e ≡ passes (first_of here) → Err e ≡ whole
-  target_refuses e p = lists_refused (targets_answer d answers count i) targets i None here later tt refl h whole q tt e p
-
-  pub target_passes : Ok tt ≡ passes (first_of here) → whole ≡ targets_answer d answers count (i + 1) (drop (i + 1) targets)
-  target_passes p = lists_passed (targets_answer d answers count i) targets i None here later tt refl h whole q tt tt p
+pub ruleset target_steps = (verdict_cases, next_target)

@@ -22,14 +22,12 @@ fn writes_like_first(first: Option<ColorTargetState>, target: Option<ColorTarget
 fn write_alike(targets: &[Option<ColorTargetState>]) -> bool
     ensures { result ≡ alike_targets targets.now }
 {
-    let mut first: Option<ColorTargetState> = None;
-    for target in targets {
-        if !writes_like_first(first, *target) {
-            return false;
-        }
-        first = first.or(*target);
-    }
-    true
+    let Some(first) = targets.iter().find(|target| target.is_some()) else {
+        return true;
+    };
+    targets
+        .iter()
+        .all(|target| writes_like_first(*first, *target))
 }
 
 // Targets that write or blend each in its own way are for a device with that flag.
@@ -48,25 +46,15 @@ pub fn check_independent_blend(
 fn reads_second_source(target: Option<ColorTargetState>) -> bool
     ensures { result ≡ reads_second_at target }
 {
-    let Some(t) = target else {
-        return false;
-    };
-    match t.blend {
-        Some(b) => b.color.ref_second_blend_source() || b.alpha.ref_second_blend_source(),
-        None => false,
-    }
+    target.and_then(|t| t.blend).is_some_and(|b| b.color.ref_second_blend_source()
+        || b.alpha.ref_second_blend_source())
 }
 
 // Whether the blending of a target reads the second color.
 fn read_second_source(targets: &[Option<ColorTargetState>]) -> bool
     ensures { result ≡ reads_second_any targets.now }
 {
-    for target in targets {
-        if reads_second_source(*target) {
-            return true;
-        }
-    }
-    false
+    targets.iter().any(|target| reads_second_source(*target))
 }
 
 // The second color is for a style with one target: no other may stand beside it, not even an empty one.

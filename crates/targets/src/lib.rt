@@ -4,4 +4,5 @@
 
 pub mod beside;
 mod blending;
+mod fault;
 pub mod state;

@@ -4,7 +4,9 @@ ghost use Rattle.faults.specs.Faults.{answer, first_of};
 ghost use Rattle.targets.specs.Order.{mask_verdict, uses_verdicts, count_fault, state_verdicts, target_verdicts};
 ghost use Rattle.targets.specs.Rules.{TargetsJudged};
 
-use crate::blending::check_blend;
+use crate::blending::Target;
+use crate::fault::fault_at;
+use adapter::samples::require_sample_count;
 use adapter::{Adapter, describe_format_features};
 use descriptor::blend::ColorTargetState;
 use device::Device;
@@ -13,97 +15,97 @@ use errors::create::CreateRenderPipelineError;
 use formats::format_features::TextureFormatFeatures;
 use formats::texture::TextureFormat;
 
-fn check_write_mask(target: u64, state: &ColorTargetState) -> Result<(), CreateRenderPipelineError>
-    ensures { result ≡ answer (mask_verdict target state.now) tt }
+fn check_write_mask(index: u64, state: &ColorTargetState) -> Result<(), CreateRenderPipelineError>
+    ensures { result ≡ answer (mask_verdict index state.now) tt }
 {
     if state.write_mask.contains_unknown_bits() {
         let e = ColorStateError::InvalidWriteMask(state.write_mask);
-        return Err(CreateRenderPipelineError::ColorState(target, e));
+        return Err(fault_at(index, e));
     }
     Ok(())
 }
 
 // What is asked of the format: that it can be drawn on, be blended if it is, and has color.
 fn check_uses(
-    target: u64,
+    index: u64,
     state: &ColorTargetState,
     features: &TextureFormatFeatures,
 ) -> Result<(), CreateRenderPipelineError>
-    ensures { result ≡ answer (first_of (uses_verdicts target state.now features.now)) tt }
+    ensures { result ≡ answer (first_of (uses_verdicts index state.now features.now)) tt }
 {
     let format = state.format;
     if !features.renderable {
-        let e = ColorStateError::FormatNotRenderable(format);
-        return Err(CreateRenderPipelineError::ColorState(target, e));
+        return Err(fault_at(index, ColorStateError::FormatNotRenderable(format)));
     }
     if state.blend.is_some() && !features.flags.blendable {
-        let e = ColorStateError::FormatNotBlendable(format);
-        return Err(CreateRenderPipelineError::ColorState(target, e));
+        return Err(fault_at(index, ColorStateError::FormatNotBlendable(format)));
     }
     if !format.aspects().color {
-        let e = ColorStateError::FormatNotColor(format);
-        return Err(CreateRenderPipelineError::ColorState(target, e));
+        return Err(fault_at(index, ColorStateError::FormatNotColor(format)));
     }
     Ok(())
 }
 
-// A count above one is one that the format can have, by `features`; else the refusal tells which it can have.
-fn check_sample_count<A: Adapter>(
-    device: &Device,
-    adapter: &A,
-    target: u64,
+// What all targets of a style are judged by.
+#[derive(Drop)]
+struct Judge<'a, A> {
+    device: &'a Device,
+    adapter: &'a A,
     count: u32,
-    format: TextureFormat,
-    features: &TextureFormatFeatures,
-) -> Result<(), CreateRenderPipelineError>
-    ensures { result ≡ answer (count_fault device.now (A.Adapter.answers adapter.now) count target format features.now.flags) tt }
-{
-    if count > 1 && !features.flags.sample_count_supported(count) {
-        let e = ColorStateError::InvalidSampleCount {
-            count,
-            format,
-            guaranteed: format
-                .guaranteed_format_features(device.features)
-                .flags
-                .supported_sample_counts(),
-            supported: adapter
-                .get_texture_format_features(format)
-                .flags
-                .supported_sample_counts(),
+}
+
+impl<'a, A: Adapter> Judge<'a, A> {
+    // The sample count is one that the format can have, by `features`.
+    fn check_sample_count(
+        &self,
+        index: u64,
+        format: TextureFormat,
+        features: &TextureFormatFeatures,
+    ) -> Result<(), CreateRenderPipelineError>
+        ensures { result ≡ answer (count_fault self.now.device.now (A.Adapter.answers self.now.adapter.now) self.now.count index format features.now.flags) tt }
+    {
+        let count = self.count;
+        require_sample_count(self.device, self.adapter, count, format, features).map_err(|sums| {
+            let e = ColorStateError::InvalidSampleCount {
+                count,
+                format,
+                guaranteed: sums.guaranteed,
+                supported: sums.supported,
+            };
+            fault_at(index, e)
+        })
+    }
+
+    #[tactic(auto, using(crate::proofs::Verdicts::verdict_cases))]
+    fn check_state(
+        &self,
+        index: u64,
+        state: &ColorTargetState,
+    ) -> Result<(), CreateRenderPipelineError>
+        ensures { result ≡ answer (first_of (state_verdicts self.now.device.now (A.Adapter.answers self.now.adapter.now) self.now.count index state.now)) tt }
+    {
+        check_write_mask(index, state)?;
+        let features = describe_format_features(self.device, self.adapter, state.format)?;
+        check_uses(index, state, &features)?;
+        self.check_sample_count(index, state.format, &features)?;
+        let target = Target {
+            device: self.device,
+            index,
         };
-        return Err(CreateRenderPipelineError::ColorState(target, e));
+        target.check_blend(state.blend)
     }
-    Ok(())
-}
 
-fn check_state<A: Adapter>(
-    device: &Device,
-    adapter: &A,
-    count: u32,
-    target: u64,
-    state: &ColorTargetState,
-) -> Result<(), CreateRenderPipelineError>
-    ensures { result ≡ answer (first_of (state_verdicts device.now (A.Adapter.answers adapter.now) count target state.now)) tt }
-{
-    check_write_mask(target, state)?;
-    let features = describe_format_features(device, adapter, state.format)?;
-    check_uses(target, state, &features)?;
-    check_sample_count(device, adapter, target, count, state.format, &features)?;
-    check_blend(device, target, state.blend)
-}
-
-fn check_target<A: Adapter>(
-    device: &Device,
-    adapter: &A,
-    count: u32,
-    target: u64,
-    state: Option<ColorTargetState>,
-) -> Result<(), CreateRenderPipelineError>
-    ensures { result ≡ answer (first_of (target_verdicts device.now (A.Adapter.answers adapter.now) count target state)) tt }
-{
-    match state {
-        Some(s) => check_state(device, adapter, count, target, &s),
-        None => Ok(()),
+    fn check_target(
+        &self,
+        index: u64,
+        state: Option<ColorTargetState>,
+    ) -> Result<(), CreateRenderPipelineError>
+        ensures { result ≡ answer (first_of (target_verdicts self.now.device.now (A.Adapter.answers self.now.adapter.now) self.now.count index state)) tt }
+    {
+        match state {
+            Some(s) => self.check_state(index, &s),
+            None => Ok(()),
+        }
     }
 }
 
@@ -116,8 +118,13 @@ pub fn check_color_states<A: Adapter>(
 ) -> Result<(), CreateRenderPipelineError>
     ensures { TargetsJudged device.now (A.Adapter.answers adapter.now) count targets.now result }
 {
-    for i in 0..targets.len() {
-        check_target(device, adapter, count, i as u64, targets[i])?;
+    let judge = Judge {
+        device,
+        adapter,
+        count,
+    };
+    for (i, target) in targets.iter().enumerate() {
+        judge.check_target(i as u64, *target)?;
     }
     Ok(())
 }

@@ -1,14 +1,11 @@
-use Rattle.std.proofs.Common.{None, sym}
-use Rattle.targets.proofs.Pairs.{second_here, second_later, second_nowhere}
+use Rattle.std.proofs.Common.{rules, ◌∙◌}
+use Rattle.std.proofs.lemmas.Iterator.{YieldsList-from_slice}
+use Rattle.std.proofs.lemmas.Iterator.Search.{any_from_yields_List}
+use Rattle.targets.specs.Order.{reads_second_at}
+use Rattle.targets.proofs.Pairs.{any_second}
 use Rattle.targets.proofs.beside.read_second_source.Goals as goal
 
-pub returns-then-reads_second_source : goal.returns-then-reads_second_source
-returns-then-reads_second_source c =
-    second_here c.args.targets.now c.loop-target.target-index _ c.loop-target.invariant c.loop-target-test.true (sym c.if-reads_second_source.ensures)
-
-pub loop-target-preserved : goal.loop-target-preserved
-loop-target-preserved c =
-    second_later c.args.targets.now c.loop-target.target-index _ c.loop-target.invariant c.loop-target-test.true (sym c.if-reads_second_source.ensures)
-
 pub returns : goal.returns
-returns c = second_nowhere c.args.targets.now c.loop-target.target-index None c.loop-target.invariant c.loop-target-test.false
+returns c =
+    any_from_yields_List reads_second_at _ _ _ c.any.ensures.ran (YieldsList-from_slice c.args.targets.now cc) (λ x b q k. search rules)
+    ∙ any_second c.args.targets.now

@@ -1,14 +1,18 @@
-use Rattle.std.proofs.Common.{None, sym}
-use Rattle.targets.proofs.Pairs.{unlike_here, alike_so_far, alike_all}
+use Rattle.std.proofs.Common.{rules, sym, ◌∙◌}
+use Rattle.std.specs.Option.{is_some}
+use Rattle.std.proofs.lemmas.Iterator.{YieldsList-from_slice}
+use Rattle.std.proofs.lemmas.Iterator.Search.{all_from_yields_List, find_from_yields_List}
+use Rattle.targets.specs.Order.{like_first}
+use Rattle.targets.proofs.Pairs.{alike_without, alike_by_first}
 use Rattle.targets.proofs.beside.write_alike.Goals as goal
 
-pub returns-then-not-writes_like_first : goal.returns-then-not-writes_like_first
-returns-then-not-writes_like_first c =
-    unlike_here c.args.targets.now c.loop-target.target-index _ c.loop-target.first c.loop-target.invariant c.loop-target-test.true (sym c.if-not-writes_like_first.ensures)
-
-pub loop-target-preserved : goal.loop-target-preserved
-loop-target-preserved c =
-    alike_so_far c.args.targets.now c.loop-target.target-index _ c.loop-target.first c.loop-target.invariant c.loop-target-test.true (sym c.if-not-writes_like_first.ensures) _ c.or-first.ensures
+pub returns-in_default : goal.returns-in_default
+returns-in_default c =
+    let found = find_from_yields_List is_some _ _ c.find.result c.find.ensures.ran (YieldsList-from_slice c.args.targets.now cc) (λ x b q k. search rules) in
+    alike_without c.args.targets.now (sym (rw c.in_default.is at found))
 
 pub returns : goal.returns
-returns c = alike_all c.args.targets.now c.loop-target.target-index None c.loop-target.first c.loop-target.invariant c.loop-target-test.false
+returns c =
+    let found = find_from_yields_List is_some _ _ c.find.result c.find.ensures.ran (YieldsList-from_slice c.args.targets.now cc) (λ x b q k. search rules) in
+    all_from_yields_List (like_first c.in-Some.first.now) _ _ _ c.all.ensures.ran (YieldsList-from_slice c.args.targets.now cc) (λ x b q k. search rules)
+    ∙ alike_by_first c.in-Some.first.now c.args.targets.now (sym (rw c.in-Some.is at found))

@@ -1,0 +1,41 @@
+// The sample counts that a format can have on a device, and the refusal of a count that it cannot.
+ghost use Rattle.std.specs.Prelude.{◌≡◌};
+ghost use Rattle.faults.specs.Faults.{answer};
+ghost use Rattle.adapter.specs.Counts.{counts_fault};
+
+use crate::Adapter;
+use device::Device;
+use formats::format_features::TextureFormatFeatures;
+use formats::texture::TextureFormat;
+
+// The sums of the counts that WebGPU guarantees for a format, and of those that the adapter has.
+#[derive(Clone, Copy, PartialEq, Eq, Debug)]
+pub struct SampleCounts {
+    pub guaranteed: u32,
+    pub supported: u32,
+}
+
+// A count above one is one that the format can have, by `features`; else the refusal tells which it can have.
+pub fn require_sample_count<A: Adapter>(
+    device: &Device,
+    adapter: &A,
+    count: u32,
+    format: TextureFormat,
+    features: &TextureFormatFeatures,
+) -> Result<(), SampleCounts>
+    ensures { result ≡ answer (counts_fault device.now (A.Adapter.answers adapter.now) count format features.now.flags) tt }
+{
+    if count > 1 && !features.flags.sample_count_supported(count) {
+        return Err(SampleCounts {
+            guaranteed: format
+                .guaranteed_format_features(device.features)
+                .flags
+                .supported_sample_counts(),
+            supported: adapter
+                .get_texture_format_features(format)
+                .flags
+                .supported_sample_counts(),
+        });
+    }
+    Ok(())
+}

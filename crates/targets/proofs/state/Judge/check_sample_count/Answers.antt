@@ -1,0 +1,11 @@
+use Rattle.std.proofs.Common.{rules}
+use Rattle.adapter.specs.declared.samples.SampleCounts.{SampleCounts}
+use Rattle.errors.specs.declared.color.ColorStateError.TheVariants.{InvalidSampleCount}
+use Rattle.errors.specs.declared.create.CreateRenderPipelineError.TheVariants.{ColorState}
+use Rattle.targets.proofs.Verdicts.{mapped}
+use Rattle.targets.proofs.state.Judge.check_sample_count.Goals as goal
+
+pub returns : goal.returns
+returns g c =
+    mapped (λ (sums : SampleCounts). ColorState c.args.index (InvalidSampleCount c.args.self.now.count c.args.format sums.guaranteed sums.supported))
+    _ _ _ _ c.require_sample_count.ensures c.map_err.ensures.cases (λ d e m. search rules)
