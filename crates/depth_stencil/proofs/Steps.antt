@@ -7,7 +7,7 @@ use Rattle.formats.specs.Texture.{required_of}
 use Rattle.formats.specs.declared.format_features.TextureFormatFeatures.{TextureFormatFeatures}
 use Rattle.device.specs.Lacking.{features_fault}
 use Rattle.device.specs.declared.Device.{Device}
-use Rattle.device.specs.declared.MissingFeatures.{MissingFeatures as Lacking}
+use Rattle.device.specs.Lacking.{MissingFeatures as Lacking}
 use Rattle.adapter.specs.Used.{Answers, used, answer_used}
 use Rattle.descriptor.specs.declared.depth_stencil.DepthStencilState.{DepthStencilState}
 use Rattle.descriptor.specs.declared.primitive.PrimitiveTopology.{PrimitiveTopology}

@@ -1,9 +1,10 @@
 // The faults of one color target.
 use descriptor::blend::{BlendFactor, ColorWrites};
+use formats::flags::Flags;
 use formats::texture::TextureFormat;
 use std::fmt;
 
-#[derive(Clone, Copy)]
+#[derive(Clone, Copy, PartialEq, Eq, Debug)]
 pub enum ColorStateError {
     FormatNotRenderable(TextureFormat),
     FormatNotBlendable(TextureFormat),
@@ -41,10 +42,11 @@ impl fmt::Display for ColorStateError {
                 f,
                 "{format:?} cannot have {count} samples; the counts that are guaranteed sum up to {guaranteed}, those of the adapter to {supported}"
             ),
-            Self::InvalidWriteMask(mask) => {
-                let bits = mask.bits();
-                write!(f, "write mask {bits} has a bit that is no channel's")
-            }
+            Self::InvalidWriteMask(mask) => write!(
+                f,
+                "write mask {} has a bit that is no channel's",
+                mask.bits()
+            ),
             Self::BlendFactorOnUnsupportedTarget { factor, target } => write!(
                 f,
                 "blend factor {factor:?} is for target 0 only, and not for target {target}"

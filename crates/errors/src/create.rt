@@ -8,10 +8,11 @@ use crate::depth_stencil::DepthStencilStateError;
 use attachments::error::ColorAttachmentError;
 use descriptor::primitive::{IndexFormat, PrimitiveTopology};
 use device::{MissingDownlevelFlags, MissingFeatures};
+use faults::Fault;
 use std::fmt;
 use vertex::error::VertexStateError;
 
-#[derive(Clone, Copy)]
+#[derive(Clone, Copy, PartialEq, Eq, Debug)]
 pub enum CreateRenderPipelineError {
     ColorAttachment(ColorAttachmentError),
     // The target's place, and what is wrong with it.
@@ -72,11 +73,10 @@ impl From<MissingDownlevelFlags> for CreateRenderPipelineError {
     }
 }
 
-impl CreateRenderPipelineError {
-    // The fault's number in the rule book.
-    pub fn number(&self) -> u32
-        ensures { result ≡ number_of self.now }
-    {
+impl Fault for CreateRenderPipelineError {
+    ghost number_of = { number_of };
+
+    fn number(&self) -> u32 {
         match self {
             CreateRenderPipelineError::ColorAttachment(e) => e.number(),
             CreateRenderPipelineError::ColorState(..) => 13,

@@ -3,7 +3,7 @@ use descriptor::primitive::PrimitiveTopology;
 use formats::texture::TextureFormat;
 use std::fmt;
 
-#[derive(Clone, Copy)]
+#[derive(Clone, Copy, PartialEq, Eq, Debug)]
 pub enum DepthStencilStateError {
     FormatNotRenderable(TextureFormat),
     FormatNotDepthOrStencil(TextureFormat),

@@ -5,6 +5,7 @@ ghost use Rattle.vertex.specs.Words.{words};
 ghost use Rattle.vertex.specs.declared.error.VertexStateError.TheVariants.{MissingFeatures as Lacks};
 
 use device::MissingFeatures;
+use faults::Fault;
 use std::fmt;
 
 #[derive(Clone, Copy, PartialEq, Eq, Debug)]
@@ -56,11 +57,10 @@ impl From<MissingFeatures> for VertexStateError {
     }
 }
 
-impl VertexStateError {
-    // The fault's number in the rule book.
-    pub fn number(&self) -> u32
-        ensures { result ≡ number_of self.now }
-    {
+impl Fault for VertexStateError {
+    ghost number_of = { number_of };
+
+    fn number(&self) -> u32 {
         match self {
             VertexStateError::AttributeRange { .. } => 1,
             VertexStateError::TooManyVertexBuffers { .. } => 3,

@@ -15,6 +15,6 @@ loop-i-preserved c =
     grind (in_order, here)
 
 pub returns : goal.returns
-returns c = 
+returns c =
     let end = at_drop_all (costs_answer c.loop-i.i c.loop-i.total) c.args.colors.now c.loop-i.i (search rules) in
     grind (in_order, end)
