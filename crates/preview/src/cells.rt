@@ -1,5 +1,6 @@
 // How the preview writes what it knows of a format.
 use device::MissingFeatures;
+use faults::Fault;
 use formats::format_features::TextureFormatFeatures;
 use formats::texture::{FormatAspects, TargetCost};
 use std::fmt;

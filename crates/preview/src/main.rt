@@ -14,9 +14,11 @@ use descriptor::vertex::{VertexAttribute, VertexBufferLayout, VertexState};
 use device::Device;
 use device::ceilings::RequiredLimits;
 use device::limits::Limits;
+use faults::Fault;
 use formats::features::{DownlevelFlags, Features};
+use formats::flags::Flags;
 use formats::texture::TextureFormat;
-use std::io;
+use std::{fmt, io};
 use vertex::layout::check_vertex_state;
 use vertex::step::VertexStep;
 
@@ -78,6 +80,10 @@ fn show_step(rt: &HostRuntime, index: usize, step: &VertexStep) -> io::Result<()
     )
 }
 
+fn show_refusal<E: Fault + fmt::Display>(rt: &HostRuntime, fault: &E) -> io::Result<()> {
+    println!(rt; "   refused, fault {}: {fault}", fault.number())
+}
+
 // Judges a layout, and prints it with its verdict: the steps that are kept, or the fault's number and words.
 fn judge(rt: &HostRuntime, device: &Device, sample: &Sample) -> io::Result<()> {
     println!(rt; "-- {}", sample.name)?;
@@ -92,7 +98,7 @@ fn judge(rt: &HostRuntime, device: &Device, sample: &Sample) -> io::Result<()> {
             }
             Ok(())
         }
-        Err(fault) => println!(rt; "   refused, fault {}: {fault}", fault.number()),
+        Err(fault) => show_refusal(rt, &fault),
     }
 }
 
@@ -123,7 +129,7 @@ fn ask(
             downlevel: DownlevelFlags::from_bits_retain(7),
         })),
         Err(fault) => {
-            println!(rt; "   refused, fault {}: {fault}", fault.number())?;
+            show_refusal(rt, &fault)?;
             Ok(None)
         }
     }

@@ -14,7 +14,9 @@ use descriptor::vertex::{VertexAttribute, VertexBufferLayout, VertexState, Verte
 use device::Device;
 use device::ceilings::RequiredLimits;
 use device::limits::Limits;
+use faults::Fault;
 use formats::features::{DownlevelFlags, Features};
+use formats::flags::Flags;
 use std::alloc::Global;
 use std::io::BufRead;
 use std::{io, vec};
@@ -71,6 +73,7 @@ impl Numbers {
         }
         Ok(Some(VertexBufferLayout {
             array_stride: self.next_u64()?,
+            // Any number but 0 is Instance, which is no conversion that a type could own.
             step_mode: match self.next_u64()? {
                 0 => VertexStepMode::Vertex,
                 _ => VertexStepMode::Instance,
