@@ -30,18 +30,13 @@ pub struct Entry<K, V> {
 #[derive(Clone, Copy, PartialEq, Eq, Debug)]
 pub struct Full;
 
-// Whether the place has the key. It is a function, since this closure inside that of `position` left the goal open.
-fn has<K: Key, V: Copy>(place: &Option<Entry<K, V>>, key: &K) -> bool
-    ensures { result ≡ hit K.Key.same key.now place.now }
-{
-    place.is_some_and(|entry| entry.key.is_same(key))
-}
-
 // The first place that has the key.
 fn place_of<K: Key, V: Copy>(places: &[Option<Entry<K, V>>], key: &K) -> Option<usize>
     ensures { result ≡ position (hit K.Key.same key.now) places.now }
 {
-    places.iter().position(|place| has(place, key))
+    places
+        .iter()
+        .position(|place| place.is_some_and(|entry| entry.key.is_same(key)))
 }
 
 fn first_empty<K: Copy, V: Copy>(places: &[Option<Entry<K, V>>]) -> Option<usize>
