@@ -99,6 +99,8 @@ impl DownlevelFlags {
     pub const DEPTH_BIAS_CLAMP: DownlevelFlags = DownlevelFlags { bits: 1 << 1 };
 
     pub const WEBGPU_TEXTURE_FORMAT_SUPPORT: DownlevelFlags = DownlevelFlags { bits: 1 << 2 };
+
+    pub const ALL: DownlevelFlags = DownlevelFlags { bits: 7 };
 }
 
 // The flags that have a name, in the order of their bits.

@@ -67,6 +67,54 @@ fn size_at(place: usize) -> u64
 }
 
 impl VertexFormat {
+    pub const ALL: [VertexFormat; 45] = [
+        VertexFormat::Uint8,
+        VertexFormat::Uint8x2,
+        VertexFormat::Uint8x4,
+        VertexFormat::Sint8,
+        VertexFormat::Sint8x2,
+        VertexFormat::Sint8x4,
+        VertexFormat::Unorm8,
+        VertexFormat::Unorm8x2,
+        VertexFormat::Unorm8x4,
+        VertexFormat::Snorm8,
+        VertexFormat::Snorm8x2,
+        VertexFormat::Snorm8x4,
+        VertexFormat::Uint16,
+        VertexFormat::Uint16x2,
+        VertexFormat::Uint16x4,
+        VertexFormat::Sint16,
+        VertexFormat::Sint16x2,
+        VertexFormat::Sint16x4,
+        VertexFormat::Unorm16,
+        VertexFormat::Unorm16x2,
+        VertexFormat::Unorm16x4,
+        VertexFormat::Snorm16,
+        VertexFormat::Snorm16x2,
+        VertexFormat::Snorm16x4,
+        VertexFormat::Float16,
+        VertexFormat::Float16x2,
+        VertexFormat::Float16x4,
+        VertexFormat::Float32,
+        VertexFormat::Float32x2,
+        VertexFormat::Float32x3,
+        VertexFormat::Float32x4,
+        VertexFormat::Uint32,
+        VertexFormat::Uint32x2,
+        VertexFormat::Uint32x3,
+        VertexFormat::Uint32x4,
+        VertexFormat::Sint32,
+        VertexFormat::Sint32x2,
+        VertexFormat::Sint32x3,
+        VertexFormat::Sint32x4,
+        VertexFormat::Float64,
+        VertexFormat::Float64x2,
+        VertexFormat::Float64x3,
+        VertexFormat::Float64x4,
+        VertexFormat::Unorm10_10_10_2,
+        VertexFormat::Unorm8x4Bgra,
+    ];
+
     // Component width times component count, in bytes.
     pub fn size(self) -> u64
         ensures rule { result ≡ size_of self }
@@ -86,5 +134,18 @@ impl VertexFormat {
                 | VertexFormat::Float64x3
                 | VertexFormat::Float64x4
         )
+    }
+}
+
+#[cfg(test)]
+mod tests {
+    use super::*;
+
+    // No format is left out of the list.
+    #[test]
+    fn all(rt: HostRuntime) {
+        for (place, format) in VertexFormat::ALL.iter().enumerate() {
+            assert_eq!(rt; *format as usize, place);
+        }
     }
 }

@@ -126,7 +126,7 @@ fn ask(
         Ok(limits) => Ok(Some(Device {
             limits,
             features,
-            downlevel: DownlevelFlags::from_bits_retain(7),
+            downlevel: DownlevelFlags::ALL,
         })),
         Err(fault) => {
             show_refusal(rt, &fault)?;

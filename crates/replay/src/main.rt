@@ -7,8 +7,6 @@
 // An answer has 0 and then, of each slot, 0 where it is empty, else 1, stride, last_stride, mode; or the fault's number and its values.
 #![tactic(auto)]
 
-mod table;
-
 use anyhow::{Context, anyhow};
 use descriptor::vertex::{VertexAttribute, VertexBufferLayout, VertexState, VertexStepMode};
 use device::Device;
@@ -17,10 +15,10 @@ use device::limits::Limits;
 use faults::Fault;
 use formats::features::{DownlevelFlags, Features};
 use formats::flags::Flags;
+use formats::vertex::VertexFormat;
 use std::alloc::Global;
 use std::io::BufRead;
 use std::{io, vec};
-use table::FORMATS;
 use vertex::error::VertexStateError;
 use vertex::layout::check_vertex_state;
 use vertex::step::VertexStep;
@@ -86,7 +84,9 @@ impl Numbers {
     fn attribute(&mut self) -> anyhow::Result<VertexAttribute> {
         let place = usize::try_from(self.next_u64()?)?;
         Ok(VertexAttribute {
-            format: *FORMATS.get(place).context("there is no such format")?,
+            format: *VertexFormat::ALL
+                .get(place)
+                .context("there is no such format")?,
             offset: self.next_u64()?,
             shader_location: self.next_u32()?,
         })
@@ -105,7 +105,7 @@ impl Numbers {
         Ok(Device {
             limits,
             features,
-            downlevel: DownlevelFlags::from_bits_retain(7),
+            downlevel: DownlevelFlags::ALL,
         })
     }
 }
