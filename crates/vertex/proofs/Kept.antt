@@ -1,9 +1,10 @@
 -- What an accepted vertex state keeps, in words.
-use Rattle.std.proofs.Common.{◌≡◌, ℕ, zero, suc, ◌-◌, ◌≤◌, max, eqb, ◌⊎◌, List, [], ◌∷◌, map, length, get_or, replicate, Some, None, Option, Result, sym, refl, ◌∙◌, inl, inr, arith}
+use Rattle.std.proofs.Common.{◌≡◌, ℕ, ◌≤◌, max, ◌⊎◌, List, [], ◌∷◌, length, get_or, Some, None, Option, Result, sym, refl, inl, inr, arith}
 use Rattle.std.specs.List.{ContainsAt, AllByRecursion}
-use Rattle.std.proofs.ByRecursion.{all-has, has_get_or}
-use Rattle.std.proofs.lemmas.List.{get_or_past, get_or-map, get_or_append_left, get_or-append_right, length-map}
-use Rattle.std.proofs.lemmas.Bool.{cases_lt, cond_both}
+use Rattle.std.proofs.ByRecursion.{all-has, has_get_or, has_append_right}
+use Rattle.std.proofs.lemmas.List.{get_or_past}
+use Rattle.std.proofs.lemmas.Grind.{common_steps}
+use Rattle.std.proofs.lemmas.Bool.{cases_lt}
 use Rattle.faults.specs.Faults.{first_of, answer, Judged}
 use Rattle.faults.proofs.Order.{judged}
 use Rattle.device.specs.declared.Device.{Device}
@@ -19,18 +20,12 @@ use Rattle.vertex.proofs.Lawful.{lawful, passes_lawful}
 -- the greatest end: at least where it began, at least each end, and one of these
 from_start : (m : ℕ) (part : List VertexAttribute) → m ≤ greatest_end m part
 from_start m [] = omega arith
-from_start m (a ∷ rest) = let h = from_start (max m (attribute_end a)) rest in omega arith
+from_start m (a ∷ rest) = omega (arith, from_start (max m (attribute_end a)) rest)
 
 each_end : (m : ℕ) (part : List VertexAttribute) → AllByRecursion (λ a. attribute_end a ≤ greatest_end m part) part
 each_end m [] = tt
 each_end m (a ∷ rest) =
-    (let h = from_start (max m (attribute_end a)) rest in omega arith, each_end (max m (attribute_end a)) rest)
-
-here : (a : VertexAttribute) (rest : List VertexAttribute) → ContainsAt (a ∷ rest) a
-here a rest = (0, omega arith, λ x. refl)
-
-there : (a : VertexAttribute) (rest : List VertexAttribute) (b : VertexAttribute) → ContainsAt rest b → ContainsAt (a ∷ rest) b
-there a rest b w = (suc w.0, (let l = w.1 in omega arith), w.2)
+    (omega (arith, from_start (max m (attribute_end a)) rest), each_end (max m (attribute_end a)) rest)
 
 abbrev OneOf : ℕ → List VertexAttribute → Type 0
 OneOf n part = (a : VertexAttribute) × ContainsAt part a × (attribute_end a ≡ n)
@@ -41,27 +36,22 @@ one_of m (a ∷ rest) =
     elim (one_of (max m (attribute_end a)) rest) [
       | inl e ↦
           elim (cases_lt m (attribute_end a)) [
-            | inl l ↦ inr (a, here a rest, omega arith)
+            | inl l ↦ inr (a, has_get_or (a ∷ rest) 0 a (omega arith), omega arith)
             | inr l ↦ inl (omega arith)
           ]
-      | inr w ↦ inr (w.0, there a rest w.0 w.1, w.2)
+      | inr w ↦ inr (w.0, has_append_right (a ∷ []) rest w.0 w.1, w.2)
     ]
 
 reached : (part : List VertexAttribute) → ((part ≡ []) × (last_stride_of part ≡ 0)) ⊎ OneOf (last_stride_of part) part
 reached [] = inl (refl, refl)
 reached (a ∷ rest) =
     elim (one_of 0 (a ∷ rest)) [
-      | inl e ↦ let h = (each_end 0 (a ∷ rest)).0 in inr (a, here a rest, omega arith)
+      | inl e ↦ let h = (each_end 0 (a ∷ rest)).0 in inr (a, has_get_or (a ∷ rest) 0 a (omega arith), omega arith)
       | inr w ↦ inr w
     ]
 
 greatest : (part : List VertexAttribute) → Greatest part (last_stride_of part)
 greatest part = record { covers = λ a w. all-has (λ b. attribute_end b ≤ last_stride_of part) part a (each_end 0 part) w; reached = reached part }
-
-no_step : (n k : ℕ) → get_or {A = Option VertexStep} (replicate n None) k None ≡ None
-no_step zero k = refl
-no_step (suc n) zero = refl
-no_step (suc n) (suc k) = no_step n k
 
 -- where no end is beyond n, the greatest is not
 within_bound : (part : List VertexAttribute) (n : ℕ) → ((a : VertexAttribute) → ContainsAt part a → attribute_end a ≤ n) → last_stride_of part ≤ n
@@ -73,10 +63,7 @@ within_bound part n f =
 
 module _ (d : Device) (slots : List (Option VertexBufferLayout)) (attributes : List VertexAttribute) (l : Lawful d slots attributes) where
   reach_bound : (s : VertexBufferLayout) → SlotLawful d attributes s → reach d s ≤ 536870912
-  reach_bound s k =
-      let c = d.limits.stride in
-      let h = k.stride in
-      cond_both (eqb s.array_stride 0) _ _ (λ n. n ≤ 536870912) (λ t. omega arith) (λ f. omega arith)
+  reach_bound s k = grind (arith, k.stride, d.limits.stride)
 
   keeps : (o : Option VertexBufferLayout) → ContainsAt slots o → KeptOf attributes o (step_of attributes o)
   keeps None w = tt
@@ -97,16 +84,14 @@ module _ (d : Device) (slots : List (Option VertexBufferLayout)) (attributes : L
   -- past the slots there is neither a slot nor a step
   empty : (i : ℕ) → length slots ≤ i → KeptOf attributes (get_or slots i None) (get_or (steps_of slots attributes) i None)
   empty i h =
-      let e : get_or (steps_of slots attributes) i None ≡ None =
-      get_or-append_right (map (step_of attributes) slots) _ (length slots) i None (length-map slots (step_of attributes)) h ∙ no_step (16 - length slots) (i - length slots) in
+      let e : get_or (steps_of slots attributes) i None ≡ None = grind (arith, common_steps) in
       rw (get_or_past slots i None h, e) tt
 
   kept : (i : ℕ) → KeptOf attributes (get_or slots i None) (get_or (steps_of slots attributes) i None)
   kept i =
       elim (cases_lt i (length slots)) [
         | inl h ↦
-            let e : get_or (steps_of slots attributes) i None ≡ step_of attributes (get_or slots i None) =
-            get_or_append_left (map (step_of attributes) slots) _ None i (omega (arith, length-map slots (step_of attributes))) ∙ get_or-map (step_of attributes) slots i None None h in
+            let e : get_or (steps_of slots attributes) i None ≡ step_of attributes (get_or slots i None) = grind (arith, common_steps) in
             rw e (keeps (get_or slots i None) (has_get_or slots i None h))
         | inr h ↦ empty i h
       ]

@@ -1,19 +1,17 @@
 -- The verdicts in order are all none exactly if every rule holds.
-use Rattle.std.proofs.Common.{◌≡◌, ℕ, ◌+◌, ◌%◌, ◌≤◌, Bool, true, false, not, eqb, ◌≢◌, List, [], ◌∷◌, ◌++◌, length, Some, None, Option, Result, refl, inl, inr}
+use Rattle.std.proofs.Common.{◌≡◌, ℕ, ◌+◌, ◌%◌, ◌≤◌, Bool, true, false, not, eqb, ◌≢◌, List, [], ◌∷◌, ◌++◌, length, Some, None, Option, Result, refl, arith}
 use Rattle.std.specs.List.{ContainsAt, AllByRecursion}
 use Rattle.std.proofs.ByRecursion.{all-has, all_has_itself, All-weaker}
-use Rattle.std.proofs.lemmas.Bool.{cases_Bool, not-false, not_from_true, ltb-false, leb-false, le-ltb, lt-leb, eqb-true, eq-eqb, eqb-false, ne_eqb, or_parts, or_from}
-use Rattle.faults.specs.Faults.{first_of, within, Judged}
+use Rattle.std.proofs.lemmas.Bool.{not-false, not_from_true, ltb-false, leb-false, le-ltb, lt-leb, eqb-true, eq-eqb, eqb-false, ne_eqb, or_parts, or_from}
+use Rattle.faults.specs.Faults.{first_of, Judged}
 use Rattle.faults.proofs.Order.{all_none, none_all, both_none, none_both, each_none, none_each, not_if, if_not, judged}
 use Rattle.formats.specs.Features.{includes, vertex_attribute_64bit}
 use Rattle.formats.specs.Vertex.{is64bit}
-use Rattle.device.specs.Lacking.{features_fault}
 use Rattle.device.specs.declared.Device.{Device}
 use Rattle.descriptor.specs.Vertex.{part_of, attributes_of}
 use Rattle.descriptor.specs.declared.vertex.VertexAttribute.{VertexAttribute}
 use Rattle.descriptor.specs.declared.vertex.VertexBufferLayout.{VertexBufferLayout}
 use Rattle.vertex.specs.declared.error.VertexStateError.{VertexStateError}
-use Rattle.vertex.specs.declared.error.VertexStateError.TheVariants.{MissingFeatures}
 use Rattle.vertex.specs.Order.{attribute_verdicts, attributes_verdicts, far_verdict, format_verdict, claim_verdicts, claims_verdicts, mark, mark_all, reach, stride_verdicts, part_verdicts, slots_verdicts, ranges_verdicts, buffers_verdict, total_verdict, layout_verdicts, vertex_verdicts, unused}
 use Rattle.vertex.specs.Claims.{InList}
 use Rattle.vertex.proofs.Loops.{ranges_answer}
@@ -28,22 +26,12 @@ agrees : (a b : ℕ) → a ≡ b → not (eqb a b) ≡ false
 agrees a b h = not_from_true _ (eq-eqb a b h)
 
 -- the feature of a format
-within_none : {E F : Type 0} (f : E → F) (o : Option E) → within f o ≡ None → o ≡ None
-within_none f (Some e) h = cc
-within_none f None h = refl
-
 module _ (d : Device) (a : VertexAttribute) where
   format_none : format_verdict d a ≡ None → is64bit a.format ≡ true → includes d.features vertex_attribute_64bit ≡ true
-  format_none h t =
-      let k : within MissingFeatures (features_fault d vertex_attribute_64bit) ≡ None = rw t at h in
-      not-false _ (not_if _ _ (within_none MissingFeatures _ k))
+  format_none h t = grind (arith, h, t)
 
   none_format : (is64bit a.format ≡ true → includes d.features vertex_attribute_64bit ≡ true) → format_verdict d a ≡ None
-  none_format h =
-      elim (cases_Bool (is64bit a.format)) [
-        | inl t ↦ let k : includes d.features vertex_attribute_64bit ≡ true = h t in rw (t, k) refl
-        | inr f ↦ rw f refl
-      ]
+  none_format h = grind (arith, h)
 
   -- the second round, but for the clash
   abbrev Claimable : Type 0

@@ -1,5 +1,5 @@
--- One slot: its three groups of verdicts, one call after the other.
-use Rattle.std.proofs.Common.{◌≡◌, ℕ, ◌+◌, ◌<◌, ◌≤◌, List, [], ◌∷◌, length, get_or, Some, None, Ok, Option, refl, ap, ◌∙◌, arith}
+-- What is known of slots and attributes whose verdicts are none: locations below 32, and parts that stay in the list.
+use Rattle.std.proofs.Common.{◌≡◌, ℕ, ◌+◌, ◌<◌, List, [], ◌∷◌, length, get_or, Some, None, Ok, Option, refl, ap, ◌∙◌, arith}
 use Rattle.std.specs.List.{All, AllByRecursion, ContainsAt}
 use Rattle.std.proofs.lemmas.List.Elements.{All-from_recursion}
 use Rattle.std.proofs.ByRecursion.{All-weaker, has_get_or}
@@ -9,10 +9,9 @@ use Rattle.faults.proofs.Order.{none_from_ok, all_none, none_all, each_none, not
 use Rattle.device.specs.declared.Device.{Device}
 use Rattle.descriptor.specs.declared.vertex.VertexAttribute.{VertexAttribute}
 use Rattle.descriptor.specs.declared.vertex.VertexBufferLayout.{VertexBufferLayout}
-use Rattle.vertex.specs.Order.{attribute_verdicts, attributes_verdicts, range_verdict, ranges_verdicts, buffers_verdict}
+use Rattle.vertex.specs.Order.{attribute_verdicts, attributes_verdicts, range_verdict, ranges_verdicts}
 use Rattle.vertex.specs.Claims.{InList}
 use Rattle.vertex.specs.Rules.{InRange}
-use Rattle.vertex.proofs.Loops.{passes}
 
 -- the locations of attributes that pass the first round are below the limit
 low : (d : Device) (most : ℕ) (a : VertexAttribute) → first_of (attribute_verdicts d most a) ≡ None → a.shader_location < 32
@@ -52,10 +51,3 @@ in_list attributes slots (Some s) h w = h s w
 
 pub slot_stays : (slots : List (Option VertexBufferLayout)) (attributes : List VertexAttribute) → InRange slots attributes → (i : ℕ) → i < length slots → InList attributes (get_or slots i None)
 slot_stays slots attributes h i l = in_list attributes slots (get_or slots i None) h (has_get_or slots i None l)
-
--- slots that pass the limit of their number are at most 16
-pub few_slots : (d : Device) (slots : List (Option VertexBufferLayout)) (y : Unit {0}) → Ok y ≡ passes (buffers_verdict d slots) → length slots ≤ 16
-few_slots d slots y h =
-    let l = ltb-false _ _ (not_if _ _ (none_from_ok (buffers_verdict d slots) tt y h)) in
-    let c = d.limits.buffers in
-    omega arith

@@ -2,7 +2,6 @@
 use Rattle.std.proofs.Common.{refl}
 use Rattle.vertex.proofs.Loops.{in_order}
 use Rattle.vertex.proofs.Kept.{answers}
-use Rattle.vertex.proofs.Slots.{few_slots}
 use Rattle.vertex.proofs.layout.check_vertex_state.Goals as goal
 
 pub returns-in_err-check_attribute_ranges : goal.returns-in_err-check_attribute_ranges
@@ -18,7 +17,7 @@ returns-in_err-check_buffer_count c =
 pub invariant_of-bounded : goal.invariant_of-bounded
 invariant_of-bounded c =
     record {
-      few = few_slots c.args.device.now c.args.vertex.now.buffers.now _ c.in_ok-check_buffer_count.ensures;
+      few = grind (in_order, c.args.device.now.limits.buffers);
       ranged = c.in_ok-check_attribute_ranges.ensures.lawful refl;
     }
 
