@@ -79,6 +79,7 @@ impl VertexStateError {
 impl fmt::Display for VertexStateError {
     ghost output = { words };
 
+    // An arm for each fault: the formatter breaks each text over lines, and parts would be no plainer.
     fn fmt<W: fmt::Write>(&self, f: &mut fmt::Formatter<W>) -> fmt::Result {
         match self {
             Self::AttributeRange {

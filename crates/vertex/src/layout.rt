@@ -39,6 +39,7 @@ pub fn check_attribute_ranges(vertex: &VertexState) -> Result<(), VertexStateErr
     ensures { RangesJudged vertex.now result }
 {
     let available = vertex.attributes.len() as u64;
+    // A loop: by `try_for_each` the answer stays unproved, as no lemma of std follows its run through the verdicts.
     for (i, slot) in vertex.buffers.iter().enumerate() {
         check_range(available, i as u64, *slot)?;
     }
@@ -127,6 +128,7 @@ impl Bounded<'_> {
     {
         let mut steps = [None; 16];
         let mut locations = Locations::new();
+        // A loop, since the steps stand in fixed memory.
         for (i, slot) in self.vertex.buffers.iter().enumerate() {
             steps[i] = self.judge_slot(&mut locations, i as u64, *slot)?;
         }

@@ -80,6 +80,7 @@ impl Reach<'_> {
         ensures { result ≡ answer (first_of (attributes_verdicts self.now.device.now self.now.most part.now)) (last_stride_of part.now) }
     {
         let mut last_stride = 0;
+        // A loop: by `try_fold` the answer stays unproved, as no lemma of std follows its run through the verdicts.
         for a in part {
             let end = self.check_attribute(a)?;
             last_stride = last_stride.max(end);
