@@ -71,9 +71,9 @@ fn attribute_count(slot: &Option<VertexBufferLayout>) -> u64
 #[derive(Clone, Copy)]
 struct Bounded<'a> {
     device: &'a Device,
-    vertex: &'a VertexState<'a>,
-    ghost few: { length vertex.now.buffers.now ≤ 16 },
-    ghost ranged: { InRange vertex.now.buffers.now vertex.now.attributes.now },
+    vertex: VertexState<'a>,
+    ghost few: { length vertex.buffers.now ≤ 16 },
+    ghost ranged: { InRange vertex.buffers.now vertex.attributes.now },
 }
 
 impl Bounded<'_> {
@@ -109,9 +109,9 @@ impl Bounded<'_> {
         index: u64,
         slot: Option<VertexBufferLayout>,
     ) -> Result<Option<VertexStep>, VertexStateError>
-        requires { InList self.now.vertex.now.attributes.now slot }
-        ensures verdict { result ≡ answer (first_of (slot_verdicts self.now.device.now self.now.vertex.now.attributes.now index (claimed locations.old.places) slot)) (step_of self.now.vertex.now.attributes.now slot) }
-        ensures after { OnOk result (claimed locations.new.places ≡ mark_slot self.now.vertex.now.attributes.now (claimed locations.old.places) slot) }
+        requires { InList self.now.vertex.attributes.now slot }
+        ensures verdict { result ≡ answer (first_of (slot_verdicts self.now.device.now self.now.vertex.attributes.now index (claimed locations.old.places) slot)) (step_of self.now.vertex.attributes.now slot) }
+        ensures after { OnOk result (claimed locations.new.places ≡ mark_slot self.now.vertex.attributes.now (claimed locations.old.places) slot) }
     {
         let Some(s) = slot else {
             return Ok(None);
@@ -124,7 +124,7 @@ impl Bounded<'_> {
 
     // Slot by slot, beside the locations that the slots before have claimed.
     fn judge_slots(&self) -> Result<[Option<VertexStep>; 16], VertexStateError>
-        ensures { result ≡ answer (first_of (slots_verdicts self.now.device.now self.now.vertex.now.attributes.now 0 unused self.now.vertex.now.buffers.now)) (steps_of self.now.vertex.now.buffers.now self.now.vertex.now.attributes.now) }
+        ensures { result ≡ answer (first_of (slots_verdicts self.now.device.now self.now.vertex.attributes.now 0 unused self.now.vertex.buffers.now)) (steps_of self.now.vertex.buffers.now self.now.vertex.attributes.now) }
     {
         let mut steps = [None; 16];
         let mut locations = Locations::new();
@@ -137,13 +137,13 @@ impl Bounded<'_> {
 
     // How many attributes the slots mark together.
     fn total_attributes(&self) -> u64
-        ensures { result ≡ sum_by count_of self.now.vertex.now.buffers.now }
+        ensures { result ≡ sum_by count_of self.now.vertex.buffers.now }
     {
         self.vertex.buffers.iter().map(attribute_count).sum()
     }
 
     fn check_attribute_count(&self) -> Result<(), VertexStateError>
-        ensures { result ≡ answer (total_verdict self.now.device.now self.now.vertex.now.buffers.now) tt }
+        ensures { result ≡ answer (total_verdict self.now.device.now self.now.vertex.buffers.now) tt }
     {
         let given = self.total_attributes();
         let limit = u64::from(self.device.limits.max_vertex_attributes);
@@ -164,7 +164,10 @@ pub fn check_vertex_state(
 {
     check_attribute_ranges(vertex)?;
     check_buffer_count(device, vertex.buffers)?;
-    let bounded = Bounded { device, vertex };
+    let bounded = Bounded {
+        device,
+        vertex: *vertex,
+    };
     let steps = bounded.judge_slots()?;
     bounded.check_attribute_count()?;
     Ok(steps)

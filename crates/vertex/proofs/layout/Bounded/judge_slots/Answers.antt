@@ -8,7 +8,7 @@ use Rattle.vertex.proofs.layout.Bounded.judge_slots.Goals as goal
 
 pub judge_slot-requires : goal.judge_slot-requires
 judge_slot-requires c =
-    let v = c.args.self.now.vertex.now in
+    let v = c.args.self.now.vertex in
     slot_stays v.buffers.now v.attributes.now c.args.self.now.ranged c.loop-i.i c.loop-i-test.true
 
 pub returns-in_err-steps : goal.returns-in_err-steps
@@ -16,7 +16,7 @@ returns-in_err-steps c = grind in_order
 
 pub loop-i-preserved : goal.loop-i-preserved
 loop-i-preserved c =
-    let v = c.args.self.now.vertex.now in
+    let v = c.args.self.now.vertex in
     let e = c.in_ok-steps.ensures in
     record {
       verdict = grind in_order;
