@@ -2,9 +2,9 @@
 use Rattle.std.proofs.Common.{◌≡◌, ℕ, ◌+◌, ◌%◌, ◌≤◌, Bool, true, false, not, eqb, ◌≢◌, List, [], ◌∷◌, ◌++◌, length, Some, None, Option, Result, refl, arith}
 use Rattle.std.specs.List.{ContainsAt, AllByRecursion}
 use Rattle.std.proofs.ByRecursion.{all-has, all_has_itself, All-weaker}
-use Rattle.std.proofs.lemmas.Bool.{not-false, not_from_true, ltb-false, leb-false, le-ltb, lt-leb, eqb-true, eq-eqb, eqb-false, ne_eqb, or_parts, or_from}
+use Rattle.std.proofs.lemmas.Bool.{not-false, not_from_true, lt-leb, eqb-true, eq-eqb, eqb-false, ne_eqb, or_parts, or_from}
 use Rattle.faults.specs.Faults.{first_of, Judged}
-use Rattle.faults.proofs.Order.{all_none, none_all, both_none, none_both, each_none, none_each, not_if, if_not, judged}
+use Rattle.faults.proofs.Order.{each_none, none_each, if_not, judged}
 use Rattle.formats.specs.Features.{includes, vertex_attribute_64bit}
 use Rattle.formats.specs.Vertex.{is64bit}
 use Rattle.device.specs.declared.Device.{Device}
@@ -12,9 +12,9 @@ use Rattle.descriptor.specs.Vertex.{part_of, attributes_of}
 use Rattle.descriptor.specs.declared.vertex.VertexAttribute.{VertexAttribute}
 use Rattle.descriptor.specs.declared.vertex.VertexBufferLayout.{VertexBufferLayout}
 use Rattle.vertex.specs.declared.error.VertexStateError.{VertexStateError}
-use Rattle.vertex.specs.Order.{attribute_verdicts, attributes_verdicts, far_verdict, format_verdict, claim_verdicts, claims_verdicts, mark, mark_all, reach, stride_verdicts, part_verdicts, slots_verdicts, ranges_verdicts, buffers_verdict, total_verdict, layout_verdicts, vertex_verdicts, unused}
+use Rattle.vertex.specs.Order.{attribute_verdicts, attributes_verdicts, far_verdict, format_verdict, claims_verdicts, mark, mark_all, reach, part_verdicts, slots_verdicts, ranges_verdicts, vertex_verdicts, unused}
 use Rattle.vertex.specs.Claims.{InList}
-use Rattle.vertex.proofs.Loops.{ranges_answer}
+use Rattle.vertex.proofs.Loops.{ranges_answer, in_order}
 use Rattle.vertex.proofs.Slots.{all_stay, none_stay}
 use Rattle.vertex.specs.Rules.{AttributeLawful, SlotLawful, PairwiseDifferent, Lawful, InRange}
 
@@ -40,21 +40,16 @@ module _ (d : Device) (a : VertexAttribute) where
   module _ (most : ℕ) where
     attribute_lawful : first_of (attribute_verdicts d most a) ≡ None → Claimable → AttributeLawful d most a
     attribute_lawful h k =
-        let v = all_none (attribute_verdicts d most a) h in
         record {
-          end = ltb-false _ _ (not_if _ _ v.0);
-          aligned = differs _ _ (not_if _ _ v.1.0);
-          location = leb-false _ _ (not_if _ _ v.1.1.0);
-          near = leb-false _ _ (not_if _ _ k.0);
+          end = grind (in_order, h);
+          aligned = grind (in_order, h);
+          location = grind (in_order, h);
+          near = grind (in_order, k.0);
           format = format_none k.1;
         }
 
     first_round : AttributeLawful d most a → first_of (attribute_verdicts d most a) ≡ None
-    first_round l =
-        none_all (attribute_verdicts d most a) (
-          if_not _ _ (le-ltb _ _ l.end),
-          (if_not _ _ (agrees _ _ l.aligned), (if_not _ _ (lt-leb _ _ l.location), tt)),
-        )
+    first_round l = grind (in_order, l.end, l.aligned, l.location)
 
     second_round : AttributeLawful d most a → Claimable
     second_round l = (if_not _ _ (lt-leb _ _ l.near), none_format l.format)
@@ -115,17 +110,12 @@ module _ (d : Device) where
   claims_none : (used : ℕ → Bool) (part : List VertexAttribute) → first_of (claims_verdicts d used part) ≡ None → AllByRecursion (Claimable d) part × Fresh used part
   claims_none used [] h = (tt, tt)
   claims_none used (a ∷ rest) h =
-      let k = both_none (claim_verdicts d used a) (claims_verdicts d (mark used a) rest) h in
-      let v = all_none (claim_verdicts d used a) k.0 in
-      let r = claims_none (mark used a) rest k.1 in
-      (((v.0, v.1.0), r.0), (not_if _ _ v.1.1.0, r.1))
+      let r = claims_none (mark used a) rest (grind (in_order, h)) in
+      (((grind (in_order, h), grind (in_order, h)), r.0), (grind (in_order, h), r.1))
 
   none_claims : (used : ℕ → Bool) (part : List VertexAttribute) → AllByRecursion (Claimable d) part → Fresh used part → first_of (claims_verdicts d used part) ≡ None
   none_claims used [] c f = refl
-  none_claims used (a ∷ rest) c f =
-      none_both (claim_verdicts d used a) (claims_verdicts d (mark used a) rest)
-      (none_all (claim_verdicts d used a) (c.0.0, (c.0.1, (if_not _ _ f.0, tt))))
-      (none_claims (mark used a) rest c.1 f.1)
+  none_claims used (a ∷ rest) c f = grind (in_order, c.0.0, c.0.1, f.0, none_claims (mark used a) rest c.1 f.1)
 
   -- a slot, but for its range and for clashes
   pub record PartLawful (s : VertexBufferLayout) (part : List VertexAttribute) : Type 0 where
@@ -136,27 +126,24 @@ module _ (d : Device) where
   module _ (index : ℕ) (used : ℕ → Bool) (s : VertexBufferLayout) (part : List VertexAttribute) where
     part_none : first_of (part_verdicts d index used s part) ≡ None → PartLawful s part × Fresh used part
     part_none h =
-        let k = both_none (stride_verdicts d index s) (attributes_verdicts d (reach d s) part ++ claims_verdicts d used part) h in
-        let v = all_none (stride_verdicts d index s) k.0 in
-        let m = both_none (attributes_verdicts d (reach d s) part) (claims_verdicts d used part) k.1 in
-        let c = claims_none used part m.1 in (
+        let first : first_of (attributes_verdicts d (reach d s) part) ≡ None = grind (in_order, h) in
+        let c = claims_none used part (grind (in_order, h)) in (
           record {
-            stride = ltb-false _ _ (not_if _ _ v.0);
-            aligned = differs _ _ (not_if _ _ v.1.0);
+            stride = grind (in_order, h);
+            aligned = grind (in_order, h);
             each =
                 all_both (λ a. first_of (attribute_verdicts d (reach d s) a) ≡ None) (Claimable d) (AttributeLawful d (reach d s)) (λ a. attribute_lawful d a (reach d s)) part
-                (each_none (attribute_verdicts d (reach d s)) part m.0) c.0;
+                (each_none (attribute_verdicts d (reach d s)) part first) c.0;
           },
           c.1,
         )
 
     none_part : PartLawful s part → Fresh used part → first_of (part_verdicts d index used s part) ≡ None
     none_part l f =
-        none_both (stride_verdicts d index s) (attributes_verdicts d (reach d s) part ++ claims_verdicts d used part)
-        (none_all (stride_verdicts d index s) (if_not _ _ (le-ltb _ _ l.stride), (if_not _ _ (agrees _ _ l.aligned), tt)))
-        (none_both (attributes_verdicts d (reach d s) part) (claims_verdicts d used part)
-        (none_each (attribute_verdicts d (reach d s)) part (All-weaker (AttributeLawful d (reach d s)) (λ a. first_of (attribute_verdicts d (reach d s) a) ≡ None) (λ a. first_round d a (reach d s)) part l.each))
-        (none_claims used part (All-weaker (AttributeLawful d (reach d s)) (Claimable d) (λ a. second_round d a (reach d s)) part l.each) f))
+        let first =
+        none_each (attribute_verdicts d (reach d s)) part (All-weaker (AttributeLawful d (reach d s)) (λ a. first_of (attribute_verdicts d (reach d s) a) ≡ None) (λ a. first_round d a (reach d s)) part l.each) in
+        let second = none_claims used part (All-weaker (AttributeLawful d (reach d s)) (Claimable d) (λ a. second_round d a (reach d s)) part l.each) f in
+        grind (in_order, first, second, l.stride, l.aligned)
 
   -- slot by slot
   module _ (attributes : List VertexAttribute) where
@@ -168,18 +155,17 @@ module _ (d : Device) where
     slots_none index used [] h = (tt, tt)
     slots_none index used (None ∷ rest) h = let r = slots_none (index + 1) used rest h in ((tt, r.0), r.1)
     slots_none index used (Some s ∷ rest) h =
-        let k = both_none (part_verdicts d index used s (part_of attributes s)) (slots_verdicts d attributes (index + 1) (mark_all used (part_of attributes s)) rest) h in
-        let v = part_none index used s (part_of attributes s) k.0 in
-        let r = slots_none (index + 1) (mark_all used (part_of attributes s)) rest k.1 in
+        let v = part_none index used s (part_of attributes s) (grind (in_order, h)) in
+        let r = slots_none (index + 1) (mark_all used (part_of attributes s)) rest (grind (in_order, h)) in
         ((v.0, r.0), fresh_append used (part_of attributes s) (attributes_of attributes rest) v.1 r.1)
 
     none_slots : (index : ℕ) (used : ℕ → Bool) (slots : List (Option VertexBufferLayout)) → AllByRecursion Holds slots → Fresh used (attributes_of attributes slots) → first_of (slots_verdicts d attributes index used slots) ≡ None
     none_slots index used [] l f = refl
     none_slots index used (None ∷ rest) l f = none_slots (index + 1) used rest l.1 f
     none_slots index used (Some s ∷ rest) l f =
-        none_both (part_verdicts d index used s (part_of attributes s)) (slots_verdicts d attributes (index + 1) (mark_all used (part_of attributes s)) rest)
-        (none_part index used s (part_of attributes s) l.0 (fresh_left used (part_of attributes s) (attributes_of attributes rest) f))
-        (none_slots (index + 1) (mark_all used (part_of attributes s)) rest l.1 (fresh_right used (part_of attributes s) (attributes_of attributes rest) f))
+        let first = none_part index used s (part_of attributes s) l.0 (fresh_left used (part_of attributes s) (attributes_of attributes rest) f) in
+        let others = none_slots (index + 1) (mark_all used (part_of attributes s)) rest l.1 (fresh_right used (part_of attributes s) (attributes_of attributes rest) f) in
+        grind (in_order, first, others)
 
 module _ (slots : List (Option VertexBufferLayout)) (attributes : List VertexAttribute) where
   -- from the slots that are there to each place
@@ -212,24 +198,19 @@ module _ (d : Device) (slots : List (Option VertexBufferLayout)) (attributes : L
 
   pub lawful : first_of (vertex_verdicts d slots attributes) ≡ None → Lawful d slots attributes
   lawful h =
-      let k = both_none (ranges_verdicts (length attributes) 0 slots) (layout_verdicts d slots attributes) h in
-      let b = both_none (buffers_verdict d slots ∷ []) (slots_verdicts d attributes 0 unused slots ++ (total_verdict d slots ∷ [])) k.1 in
-      let m = both_none (slots_verdicts d attributes 0 unused slots) (total_verdict d slots ∷ []) b.1 in
-      let v = slots_none d attributes 0 unused slots m.0 in
+      let ranges : first_of (ranges_verdicts (length attributes) 0 slots) ≡ None = grind (in_order, h) in
+      let v = slots_none d attributes 0 unused slots (grind (in_order, h)) in
       record {
-        buffers = ltb-false _ _ (not_if _ _ (all_none (buffers_verdict d slots ∷ []) b.0).0);
-        each = λ s w. slot_lawful s (in_range slots attributes k.0 s w) (all-has (Holds d attributes) slots (Some s) v.0 w);
+        buffers = grind (in_order, h);
+        each = λ s w. slot_lawful s (in_range slots attributes ranges s w) (all-has (Holds d attributes) slots (Some s) v.0 w);
         locations = fresh_different unused (attributes_of attributes slots) v.1;
-        total = ltb-false _ _ (not_if _ _ (all_none (total_verdict d slots ∷ []) m.1).0);
+        total = grind (in_order, h);
       }
 
   pub passes_lawful : Lawful d slots attributes → first_of (vertex_verdicts d slots attributes) ≡ None
   passes_lawful l =
-      none_both (ranges_verdicts (length attributes) 0 slots) (layout_verdicts d slots attributes)
-      (passes_in_range slots attributes (λ s w. (l.each s w).range))
-      (none_both (buffers_verdict d slots ∷ []) (slots_verdicts d attributes 0 unused slots ++ (total_verdict d slots ∷ []))
-      (none_all (buffers_verdict d slots ∷ []) (if_not _ _ (le-ltb _ _ l.buffers), tt))
-      (none_both (slots_verdicts d attributes 0 unused slots) (total_verdict d slots ∷ [])
-      (none_slots d attributes 0 unused slots (from_each slots attributes (Holds d attributes) tt (λ s w. part_lawful s (l.each s w)))
-      (different_fresh unused (attributes_of attributes slots) (all_unused (attributes_of attributes slots)) l.locations))
-      (none_all (total_verdict d slots ∷ []) (if_not _ _ (le-ltb _ _ l.total), tt))))
+      let ranges = passes_in_range slots attributes (λ s w. (l.each s w).range) in
+      let each =
+      none_slots d attributes 0 unused slots (from_each slots attributes (Holds d attributes) tt (λ s w. part_lawful s (l.each s w)))
+      (different_fresh unused (attributes_of attributes slots) (all_unused (attributes_of attributes slots)) l.locations) in
+      grind (in_order, ranges, each, l.buffers, l.total)

@@ -46,7 +46,7 @@ module _ (d : Device) (used : ℕ → Bool) (part : List VertexAttribute) (i : �
 
   -- what is claimed in the end, from what is claimed after one more
   pub marks_more : (all next : ℕ → Bool) → all ≡ mark_all used (drop i part) → next ≡ mark used claimant → all ≡ mark_all next others
-  marks_more all next p n = p ∙ at_drop_more (mark_all used) part i a h ∙ ap (λ u. mark_all u others) (sym n)
+  marks_more all next p n = let turn = at_drop_more (mark_all used) part i a h in grind (arith, turn)
 
 -- the slots from an index on, beside the locations that are used
 abbrev pub slots_answer : Device → List VertexAttribute → ℕ → (ℕ → Bool) → List (Option VertexBufferLayout) → Result (Unit {0}) VertexStateError

@@ -1,48 +1,36 @@
 -- What is known of slots and attributes whose verdicts are none: locations below 32, and parts that stay in the list.
-use Rattle.std.proofs.Common.{◌≡◌, ℕ, ◌+◌, ◌<◌, List, [], ◌∷◌, length, get_or, Some, None, Ok, Option, refl, ap, ◌∙◌, arith}
+use Rattle.std.proofs.Common.{◌≡◌, ℕ, ◌+◌, ◌<◌, List, [], ◌∷◌, length, get_or, Some, None, Ok, Option, refl}
 use Rattle.std.specs.List.{All, AllByRecursion, ContainsAt}
 use Rattle.std.proofs.lemmas.List.Elements.{All-from_recursion}
 use Rattle.std.proofs.ByRecursion.{All-weaker, has_get_or}
-use Rattle.std.proofs.lemmas.Bool.{leb-false, ltb-false, le-ltb}
-use Rattle.faults.specs.Faults.{or_else, first_of, answer}
-use Rattle.faults.proofs.Order.{none_from_ok, all_none, none_all, each_none, not_if, if_not}
+use Rattle.faults.specs.Faults.{first_of, answer}
+use Rattle.faults.proofs.Order.{none_from_ok, each_none}
 use Rattle.device.specs.declared.Device.{Device}
 use Rattle.descriptor.specs.declared.vertex.VertexAttribute.{VertexAttribute}
 use Rattle.descriptor.specs.declared.vertex.VertexBufferLayout.{VertexBufferLayout}
-use Rattle.vertex.specs.Order.{attribute_verdicts, attributes_verdicts, range_verdict, ranges_verdicts}
+use Rattle.vertex.specs.Order.{attribute_verdicts, attributes_verdicts, ranges_verdicts}
 use Rattle.vertex.specs.Claims.{InList}
 use Rattle.vertex.specs.Rules.{InRange}
+use Rattle.vertex.proofs.Loops.{in_order}
 
 -- the locations of attributes that pass the first round are below the limit
 low : (d : Device) (most : ℕ) (a : VertexAttribute) → first_of (attribute_verdicts d most a) ≡ None → a.shader_location < 32
-low d most a h =
-    let l = leb-false _ _ (not_if _ _ (all_none (attribute_verdicts d most a) h).1.1.0) in
-    let c = d.limits.attributes in
-    omega arith
+low d most a h = grind (in_order, h, d.limits.attributes)
 
 pub all_low : (d : Device) (most : ℕ) (part : List VertexAttribute) (y x : ℕ) → Ok y ≡ answer (first_of (attributes_verdicts d most part)) x → All (λ a. a.shader_location < 32) part
 all_low d most part y x h =
     All-from_recursion _ part (All-weaker _ _ (low d most) part (each_none (attribute_verdicts d most) part (none_from_ok _ x y h)))
 
--- where no slot's part leaves the list, that of the i-th stays in it
-stays : (attributes : List VertexAttribute) (index : ℕ) (o : Option VertexBufferLayout) → range_verdict (length attributes) index o ≡ None → InList attributes o
-stays attributes index None h = tt
-stays attributes index (Some s) h = ltb-false _ _ (not_if _ _ h)
-
+-- where no slot's part leaves the list, each stays in it
 pub all_stay : (attributes : List VertexAttribute) (index : ℕ) (slots : List (Option VertexBufferLayout)) → first_of (ranges_verdicts (length attributes) index slots) ≡ None → AllByRecursion (InList attributes) slots
 all_stay attributes index [] h = tt
-all_stay attributes index (o ∷ rest) h =
-    let k = all_none (ranges_verdicts (length attributes) index (o ∷ rest)) h in
-    (stays attributes index o k.0, all_stay attributes (index + 1) rest (none_all (ranges_verdicts (length attributes) (index + 1) rest) k.1))
-
-none_stays : (attributes : List VertexAttribute) (index : ℕ) (o : Option VertexBufferLayout) → InList attributes o → range_verdict (length attributes) index o ≡ None
-none_stays attributes index None h = refl
-none_stays attributes index (Some s) h = if_not _ _ (le-ltb _ _ h)
+all_stay attributes index (None ∷ rest) h = (tt, all_stay attributes (index + 1) rest h)
+all_stay attributes index (Some s ∷ rest) h = (grind (in_order, h), all_stay attributes (index + 1) rest (grind (in_order, h)))
 
 pub none_stay : (attributes : List VertexAttribute) (index : ℕ) (slots : List (Option VertexBufferLayout)) → AllByRecursion (InList attributes) slots → first_of (ranges_verdicts (length attributes) index slots) ≡ None
 none_stay attributes index [] h = refl
-none_stay attributes index (o ∷ rest) h =
-    ap (λ v. or_else v (first_of (ranges_verdicts (length attributes) (index + 1) rest))) (none_stays attributes index o h.0) ∙ none_stay attributes (index + 1) rest h.1
+none_stay attributes index (None ∷ rest) h = none_stay attributes (index + 1) rest h.1
+none_stay attributes index (Some s ∷ rest) h = grind (in_order, h.0, none_stay attributes (index + 1) rest h.1)
 
 -- the i-th slot of those whose parts all stay in the list
 in_list : (attributes : List VertexAttribute) (slots : List (Option VertexBufferLayout)) (o : Option VertexBufferLayout) → InRange slots attributes → ContainsAt slots o → InList attributes o

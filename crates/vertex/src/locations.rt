@@ -64,7 +64,7 @@ impl Locations {
         ensures verdict { result ≡ answer (first_of (claims_verdicts device.now (claimed self.old.places) part.now)) tt }
         ensures after { OnOk result (claimed self.new.places ≡ mark_all (claimed self.old.places) part.now) }
     {
-        // A loop: in the closure of `try_for_each` it stays unproved that the location is below 32.
+        // A loop: the closure of `try_for_each` would have to repeat the clauses of `claim_attribute`.
         for a in part {
             self.claim_attribute(device, a)?;
         }
