@@ -1,5 +1,7 @@
 -- The checks of a state, one call after the other: each that refuses answers for the whole, once those before it have passed.
-use Rattle.std.proofs.Common.{◌≡◌, ℕ, not, List, [], ◌∷◌, ◌++◌, map, Ok, Err, Option, Result}
+use Rattle.std.proofs.Common.{◌≡◌, ℕ, not, List, [], ◌∷◌, ◌++◌, map, Ok, Err, Option, Result, ap, ◌∙◌}
+use Rattle.std.specs.Result.{IsErrAnd}
+use Rattle.std.proofs.lemmas.Result.{err_from_is_err_and}
 use Rattle.faults.specs.Faults.{fault_if, first_of, answer, within}
 use Rattle.faults.proofs.Order.{value_from_ok}
 use Rattle.faults.proofs.Sequence.{stop, skip, stop_in, skip_in, last, stop_list_in, skip_list_in}
@@ -7,7 +9,6 @@ use Rattle.formats.specs.Texture.{required_of}
 use Rattle.formats.specs.declared.format_features.TextureFormatFeatures.{TextureFormatFeatures}
 use Rattle.device.specs.Lacking.{features_fault}
 use Rattle.device.specs.declared.Device.{Device}
-use Rattle.device.specs.Lacking.{MissingFeatures as Lacking}
 use Rattle.adapter.specs.Used.{Answers, used, answer_used}
 use Rattle.descriptor.specs.declared.depth_stencil.DepthStencilState.{DepthStencilState}
 use Rattle.descriptor.specs.declared.primitive.PrimitiveTopology.{PrimitiveTopology}
@@ -16,6 +17,10 @@ use Rattle.errors.specs.declared.create.CreateRenderPipelineError.TheVariants.{D
 use Rattle.errors.specs.declared.depth_stencil.DepthStencilStateError.{DepthStencilStateError}
 use Rattle.errors.specs.declared.depth_stencil.DepthStencilStateError.TheVariants.{FormatNotRenderable}
 use Rattle.depth_stencil.specs.Order.{aspect_verdict, feature_verdict, renderable_verdict, depth_verdicts, no_stencil_verdict, count_fault, count_verdict, clamp_verdict, topology_verdict, state_verdicts}
+
+-- the exit of a `?` returns the fault that it made
+pub exits : {A E : Type 0} {e : E} {whole : Result A E} (r : Result A E) → IsErrAnd r (λ d. d ≡ e) → Err e ≡ whole → r ≡ whole
+exits r h k = let p = err_from_is_err_and r h in p.1 ∙ ap Err p.2 ∙ k
 
 -- what a check answers that has no value
 abbrev pub passes : {E : Type 0} → Option E → Result (Unit {0}) E
@@ -53,17 +58,9 @@ module _ (d : Device) (answers : Answers) (count : ℕ) (topology : PrimitiveTop
   abbrev pub whole : Outcome
   whole = passes (first_of (state_verdicts d answers count topology ds))
 
-  pub aspects_refuse : (e : DepthStencilStateError) → Err e ≡ passes (aspect_verdict ds) → Err (InDepthStencil e) ≡ whole
-  aspects_refuse e h = stop_in InDepthStencil (aspect_verdict ds) (first_of from_feature) e tt tt h
-
   module _ (aspects : Ok tt ≡ passes (aspect_verdict ds)) where
     past_aspects : (r : Outcome) → r ≡ passes (first_of from_feature) → r ≡ whole
     past_aspects r k = skip_in InDepthStencil (aspect_verdict ds) (first_of from_feature) tt tt tt r aspects k
-
-    pub feature_refuses : (e : Lacking) → Err e ≡ answer_used d answers ds.format → Err (MissingFeatures e) ≡ whole
-    feature_refuses e h =
-        past_aspects _
-        (stop_in MissingFeatures (features_fault d (required_of ds.format)) (first_of from_renderable) e (used d answers ds.format) tt h)
 
     module _ (u : TextureFormatFeatures) (feature : Ok u ≡ answer_used d answers ds.format) where
       -- what was described is the answer used
@@ -78,10 +75,6 @@ module _ (d : Device) (answers : Answers) (count : ℕ) (topology : PrimitiveTop
       -- the check of the features that were described
       abbrev rendered : Option DepthStencilStateError
       rendered = fault_if (not u.renderable) (FormatNotRenderable ds.format)
-
-      pub renderable_refuses : (e : DepthStencilStateError) → Err e ≡ passes rendered → Err (InDepthStencil e) ≡ whole
-      renderable_refuses e h =
-          past_feature _ (stop_in InDepthStencil (renderable_verdict d answers ds) (first_of from_depth) e tt tt (rw same at h))
 
       module _ (renderable : Ok tt ≡ passes rendered) where
         past_renderable : (r : Outcome) → r ≡ passes (first_of from_depth) → r ≡ whole

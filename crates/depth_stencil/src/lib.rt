@@ -7,6 +7,7 @@ ghost use Rattle.errors.specs.declared.depth_stencil.DepthStencilStateError.TheV
 ghost use Rattle.depth_stencil.specs.Order.{aspect_verdict, depth_verdicts, no_stencil_verdict, count_fault, clamp_verdict, topology_verdict, state_verdicts};
 ghost use Rattle.depth_stencil.specs.Rules.{DepthStencilJudged};
 
+use adapter::samples::require_sample_count;
 use adapter::{Adapter, describe_format_features};
 use descriptor::depth_stencil::DepthStencilState;
 use descriptor::primitive::PrimitiveTopology;
@@ -71,7 +72,7 @@ fn check_renderable(
     Ok(())
 }
 
-// A count above one is one that the format can have, by `features`; else the refusal tells which it can have.
+// The sample count is one that the format can have, by `features`.
 fn check_sample_count<A: Adapter>(
     device: &Device,
     adapter: &A,
@@ -81,21 +82,14 @@ fn check_sample_count<A: Adapter>(
 ) -> Result<(), DepthStencilStateError>
     ensures { result ≡ answer (count_fault device.now (A.Adapter.answers adapter.now) count format features.now.flags) tt }
 {
-    if count > 1 && !features.flags.sample_count_supported(count) {
-        return Err(DepthStencilStateError::InvalidSampleCount {
+    require_sample_count(device, adapter, count, format, features).map_err(|sums| {
+        DepthStencilStateError::InvalidSampleCount {
             count,
             format,
-            guaranteed: format
-                .guaranteed_format_features(device.features)
-                .flags
-                .supported_sample_counts(),
-            supported: adapter
-                .get_texture_format_features(format)
-                .flags
-                .supported_sample_counts(),
-        });
-    }
-    Ok(())
+            guaranteed: sums.guaranteed,
+            supported: sums.supported,
+        }
+    })
 }
 
 fn check_clamp(device: &Device, ds: &DepthStencilState) -> Result<(), CreateRenderPipelineError>
@@ -114,9 +108,7 @@ fn check_topology(
     ensures { result ≡ answer (topology_verdict topology ds.now) tt }
 {
     if ds.bias.is_enabled() && !topology.is_triangles() {
-        return Err(CreateRenderPipelineError::DepthStencilState(
-            DepthStencilStateError::DepthBiasWithIncompatibleTopology(topology),
-        ));
+        return Err(DepthStencilStateError::DepthBiasWithIncompatibleTopology(topology).into());
     }
     Ok(())
 }

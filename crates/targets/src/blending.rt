@@ -71,7 +71,6 @@ impl<'a> Target<'a> {
         self.check_factor(component.operation, component.dst_factor)
     }
 
-    #[tactic(auto, using(crate::proofs::Verdicts::verdict_cases))]
     pub fn check_blend(&self, blend: Option<BlendState>) -> Result<(), CreateRenderPipelineError>
         ensures { result ≡ answer (first_of (blend_verdicts self.now.device.now self.now.index blend)) tt }
     {

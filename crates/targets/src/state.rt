@@ -76,7 +76,6 @@ impl<'a, A: Adapter> Judge<'a, A> {
         })
     }
 
-    #[tactic(auto, using(crate::proofs::Verdicts::verdict_cases))]
     fn check_state(
         &self,
         index: u64,
