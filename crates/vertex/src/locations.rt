@@ -2,7 +2,7 @@
 ghost use Rattle.std.specs.Prelude.{◌≡◌, ◌<◌, All, OnOk};
 ghost use Rattle.faults.specs.Faults.{answer, first_of};
 ghost use Rattle.vertex.specs.Claims.{claimed, Roomy};
-ghost use Rattle.vertex.specs.Order.{far_verdict, format_verdict, clash_verdict, claim_verdicts, claims_verdicts, mark, mark_all, unused};
+ghost use Rattle.vertex.specs.Order.{far_verdict, format_verdict, claim_verdicts, claims_verdicts, mark, mark_all, unused};
 
 use crate::error::VertexStateError;
 use descriptor::vertex::VertexAttribute;
@@ -25,20 +25,6 @@ impl Locations {
         Locations { places: [None; 32] }
     }
 
-    fn claim_location(&mut self, a: &VertexAttribute) -> Result<(), VertexStateError>
-        requires { a.now.shader_location < 32 }
-        ensures verdict { result ≡ answer (clash_verdict (claimed self.old.places) a.now) tt }
-        ensures after { OnOk result (claimed self.new.places ≡ mark (claimed self.old.places) a.now) }
-    {
-        let Ok(earlier) = insert(&mut self.places, a.shader_location, a.format) else {
-            unreachable()
-        };
-        if earlier.is_some() {
-            return Err(VertexStateError::ShaderLocationClash(a.shader_location));
-        }
-        Ok(())
-    }
-
     // The second round at one attribute.
     fn claim_attribute(
         &mut self,
@@ -51,7 +37,13 @@ impl Locations {
     {
         check_far_offset(a)?;
         check_format(device, a)?;
-        self.claim_location(a)
+        let Ok(earlier) = insert(&mut self.places, a.shader_location, a.format) else {
+            unreachable()
+        };
+        if earlier.is_some() {
+            return Err(VertexStateError::ShaderLocationClash(a.shader_location));
+        }
+        Ok(())
     }
 
     // The second round at the attributes of one slot.

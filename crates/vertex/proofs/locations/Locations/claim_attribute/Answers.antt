@@ -1,5 +1,5 @@
 use Rattle.vertex.proofs.Room.{not_refused, room_kept}
-use Rattle.vertex.proofs.locations.Locations.claim_location.Goals as goal
+use Rattle.vertex.proofs.locations.Locations.claim_attribute.Goals as goal
 
 pub unreachable-requires : goal.unreachable-requires
 unreachable-requires c =
