@@ -6,7 +6,7 @@ pub mod error;
 
 use formats::texture::TextureFormat;
 
-// The formats of the attachments. A place past the last target is empty.
+// The formats of the attachments. A place past the last target is empty: an array and no Vec, since nothing here may allocate.
 #[derive(Clone, Copy, PartialEq, Eq, Debug)]
 pub struct AttachmentData {
     pub colors: [Option<TextureFormat>; 8],
@@ -18,5 +18,6 @@ pub struct AttachmentData {
 pub struct RenderPassContext {
     pub attachments: AttachmentData,
     pub sample_count: u32,
+    // A number and no Option: the rule book has 0 for none.
     pub multiview_mask: u32,
 }

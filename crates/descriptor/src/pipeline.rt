@@ -21,6 +21,6 @@ pub struct RenderPipelineDescriptor<'a> {
     pub multisample: MultisampleState,
     // A style without a fragment stage has none. A place of the list may be empty.
     pub targets: &'a [Option<ColorTargetState>],
-    // The views that are drawn at once, a bit each; 0 where there is but one and it has no number.
+    // The views that are drawn at once, a bit each. A number and no Option: the rule book has 0 for a style without a mask.
     pub multiview_mask: u32,
 }

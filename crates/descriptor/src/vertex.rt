@@ -39,6 +39,7 @@ impl VertexAttribute {
 }
 
 // A slot that is not empty. Its attributes are `count` of the list, from place `first` on.
+// Two numbers and no slice: by the rule book a part may leave the list, and the refusal of that is one of the faults.
 #[derive(Clone, Copy, PartialEq, Eq, Debug)]
 pub struct VertexBufferLayout {
     pub array_stride: u64,

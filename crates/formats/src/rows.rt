@@ -7,7 +7,7 @@ use crate::flags::Flags;
 use crate::texture::{FormatAspects, TargetCost, TextureFormat};
 
 // Which devices have something: none, all, or those with the features.
-#[derive(Clone, Copy)]
+#[derive(Clone, Copy, PartialEq, Eq, Debug)]
 pub enum Given {
     Never,
     Always,

@@ -1,4 +1,5 @@
 // The map: its places are a slice that the caller lends, and it is written once, for every lawful key.
+// A slice and no map of std's, since nothing here may allocate.
 #![tactic(auto)]
 
 ghost use Rattle.std.specs.Prelude.{◌≡◌, Bool, true, ◌==◌, position};
@@ -6,6 +7,7 @@ ghost use Rattle.keyed.specs.Lookup.{hit, is_empty, lookup, Inserts, NeverRefuse
 ghost use Rattle.std.proofs.Common.{rules};
 
 // What the map asks of a key: a sameness with three laws, and a test for it.
+// Not std's `Eq`: what is the same key is a definition of specs/, and must-fail edits turn the test, which a derive does not show.
 pub trait Key: Copy {
     ghost same: { Self → Self → Bool };
 

@@ -128,7 +128,7 @@ impl Bounded<'_> {
     {
         let mut steps = [None; 16];
         let mut locations = Locations::new();
-        // A loop, since the steps stand in fixed memory.
+        // A loop that fills an array, and no chain into a Vec, since nothing here may allocate.
         for (i, slot) in self.vertex.buffers.iter().enumerate() {
             steps[i] = self.judge_slot(&mut locations, i as u64, *slot)?;
         }

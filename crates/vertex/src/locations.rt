@@ -12,6 +12,7 @@ use formats::vertex::VertexFormat;
 use keyed::{Entry, insert};
 
 // The locations that attributes have claimed. There is always room for a new one: 32 places, and locations below 32.
+// An array and no map of std's, since nothing here may allocate.
 #[derive(Drop)]
 pub struct Locations {
     places: [Option<Entry<u32, VertexFormat>>; 32],
