@@ -60,6 +60,7 @@ fn check_stencil(ds: &DepthStencilState) -> Result<(), DepthStencilStateError>
     Ok(())
 }
 
+// One field, and this crate's own fault: a function for this and the targets' test of that field would be no plainer.
 fn check_renderable(
     features: &TextureFormatFeatures,
     format: TextureFormat,
@@ -113,6 +114,7 @@ fn check_topology(
     Ok(())
 }
 
+// The adapter and the count go to one check alone, so a struct of what is passed here would be no plainer.
 fn check_state<A: Adapter>(
     device: &Device,
     adapter: &A,

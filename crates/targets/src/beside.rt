@@ -46,8 +46,8 @@ pub fn check_independent_blend(
 fn reads_second_source(target: Option<ColorTargetState>) -> bool
     ensures { result ≡ reads_second_at target }
 {
-    target.and_then(|t| t.blend).is_some_and(|b| b.color.ref_second_blend_source()
-        || b.alpha.ref_second_blend_source())
+    let blend = target.and_then(|t| t.blend);
+    blend.is_some_and(|b| b.color.ref_second_blend_source() || b.alpha.ref_second_blend_source())
 }
 
 // Whether the blending of a target reads the second color.
