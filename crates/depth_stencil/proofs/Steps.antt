@@ -1,7 +1,5 @@
 -- The checks of a state, one call after the other: each that refuses answers for the whole, once those before it have passed.
-use Rattle.std.proofs.Common.{◌≡◌, ℕ, not, List, [], ◌∷◌, ◌++◌, map, Ok, Err, Option, Result, ap, ◌∙◌}
-use Rattle.std.specs.Result.{IsErrAnd}
-use Rattle.std.proofs.lemmas.Result.{err_from_is_err_and}
+use Rattle.std.proofs.Common.{◌≡◌, ℕ, not, List, [], ◌∷◌, ◌++◌, map, Ok, Err, Option, Result}
 use Rattle.faults.specs.Faults.{fault_if, first_of, answer, within}
 use Rattle.faults.proofs.Order.{value_from_ok}
 use Rattle.faults.proofs.Sequence.{stop, skip, stop_in, skip_in, last, stop_list_in, skip_list_in}
@@ -17,10 +15,6 @@ use Rattle.errors.specs.declared.create.CreateRenderPipelineError.TheVariants.{D
 use Rattle.errors.specs.declared.depth_stencil.DepthStencilStateError.{DepthStencilStateError}
 use Rattle.errors.specs.declared.depth_stencil.DepthStencilStateError.TheVariants.{FormatNotRenderable}
 use Rattle.depth_stencil.specs.Order.{aspect_verdict, feature_verdict, renderable_verdict, depth_verdicts, no_stencil_verdict, count_fault, count_verdict, clamp_verdict, topology_verdict, state_verdicts}
-
--- the exit of a `?` returns the fault that it made
-pub exits : {A E : Type 0} {e : E} {whole : Result A E} (r : Result A E) → IsErrAnd r (λ d. d ≡ e) → Err e ≡ whole → r ≡ whole
-exits r h k = let p = err_from_is_err_and r h in p.1 ∙ ap Err p.2 ∙ k
 
 -- what a check answers that has no value
 abbrev pub passes : {E : Type 0} → Option E → Result (Unit {0}) E

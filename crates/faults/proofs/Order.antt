@@ -3,7 +3,6 @@ use Rattle.std.proofs.Common.{◌≡◌, ℕ, zero, suc, ◌+◌, ◌<◌, ◌�
 use Rattle.std.specs.List.{flat_map, AllByRecursion}
 use Rattle.std.proofs.lemmas.List.{at_drop_more, at_drop_all}
 use Rattle.std.proofs.lemmas.Bool.{false≢true}
-use Rattle.std.proofs.lemmas.Grind.{common_steps}
 use Rattle.faults.specs.Faults.{fault_if, or_else, first_of, answer, FirstIn, Judged}
 
 -- what an answer tells of the verdict that it came from
@@ -171,6 +170,3 @@ module _ {E : Type 0} (os : List (Option E)) (i : ℕ) (o : Option E) (q : first
 
   pub scan_passes : o ≡ None → first_of os ≡ first_of (drop (i + 1) os)
   scan_passes p = q ∙ at_drop_more first_of os i o h ∙ ap (λ v. or_else v (first_of (drop (i + 1) os))) (sym r ∙ p)
-
--- for `grind`: calls with `?`, one after the other, answer the first fault of their verdicts one after the other
-pub ruleset in_order = (arith, common_steps, first_of-append)

@@ -14,7 +14,7 @@ use Rattle.errors.specs.declared.create.CreateRenderPipelineError.{CreateRenderP
 use Rattle.targets.specs.Order.{factor_verdicts, component_verdicts, blend_verdicts, mask_verdict, feature_verdict, uses_verdicts, count_fault, state_verdicts, target_verdicts, targets_verdicts}
 use Rattle.targets.specs.Rules.{FactorLawful, ComponentLawful, BlendLawful, TargetLawful, TargetsLawful, TargetsJudged}
 use Rattle.std.proofs.lemmas.Bool.Decides.{nat_tests}
-use Rattle.targets.proofs.Verdicts.{verdict_cases}
+use Rattle.faults.proofs.Verdicts.{verdict_cases}
 
 module _ (d : Device) (index : ℕ) where
   factor_lawful : (o : BlendOperation) (f : BlendFactor) → first_of (factor_verdicts d index o f) ≡ None → FactorLawful d index o f

@@ -1,4 +1,3 @@
-pub mod Verdicts
 pub mod Lawful
 pub mod Loops
 pub mod Pairs

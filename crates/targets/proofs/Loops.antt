@@ -8,7 +8,7 @@ use Rattle.adapter.specs.Used.{Answers}
 use Rattle.descriptor.specs.declared.blend.ColorTargetState.{ColorTargetState}
 use Rattle.errors.specs.declared.create.CreateRenderPipelineError.{CreateRenderPipelineError}
 use Rattle.targets.specs.Order.{target_verdicts, targets_verdicts}
-use Rattle.targets.proofs.Verdicts.{verdict_cases}
+use Rattle.faults.proofs.Verdicts.{verdict_cases}
 
 -- the first fault of the targets from an index on
 abbrev pub fault_from : Device → Answers → ℕ → ℕ → List (Option ColorTargetState) → Option CreateRenderPipelineError

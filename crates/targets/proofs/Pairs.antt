@@ -16,7 +16,7 @@ use Rattle.descriptor.specs.declared.blend.ColorTargetState.{ColorTargetState}
 use Rattle.errors.specs.declared.create.CreateRenderPipelineError.{CreateRenderPipelineError}
 use Rattle.targets.specs.Order.{like_first, alike_after, alike_targets, independent_verdict, reads_second_at, reads_second_any, dual_verdict}
 use Rattle.targets.specs.Rules.{AllAlike, IndependentLawful, DualLawful, IndependentJudged, DualJudged}
-use Rattle.targets.proofs.Verdicts.{verdict_cases}
+use Rattle.faults.proofs.Verdicts.{verdict_cases}
 use Rattle.std.proofs.lemmas.Bool.Decides.{nat_tests}
 
 abbrev Targets : Type 0

@@ -51,7 +51,7 @@ impl<'a> Target<'a> {
         Ok(())
     }
 
-    #[tactic(auto, using(crate::proofs::Verdicts::verdict_cases))]
+    #[tactic(auto, using(faults::proofs::Verdicts::verdict_cases))]
     fn check_factor(
         &self,
         operation: BlendOperation,
@@ -63,7 +63,7 @@ impl<'a> Target<'a> {
         self.check_min_max(operation, factor)
     }
 
-    #[tactic(auto, using(crate::proofs::Verdicts::verdict_cases))]
+    #[tactic(auto, using(faults::proofs::Verdicts::verdict_cases))]
     fn check_component(&self, component: &BlendComponent) -> Result<(), CreateRenderPipelineError>
         ensures { result ≡ answer (first_of (component_verdicts self.now.device.now self.now.index component.now)) tt }
     {

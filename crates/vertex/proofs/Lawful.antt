@@ -14,7 +14,8 @@ use Rattle.descriptor.specs.declared.vertex.VertexBufferLayout.{VertexBufferLayo
 use Rattle.vertex.specs.declared.error.VertexStateError.{VertexStateError}
 use Rattle.vertex.specs.Order.{attribute_verdicts, attributes_verdicts, far_verdict, format_verdict, claims_verdicts, mark, mark_all, reach, part_verdicts, slots_verdicts, ranges_verdicts, vertex_verdicts, unused}
 use Rattle.vertex.specs.Claims.{InList}
-use Rattle.vertex.proofs.Loops.{ranges_answer, in_order}
+use Rattle.vertex.proofs.Loops.{ranges_answer}
+use Rattle.faults.proofs.Verdicts.{in_order}
 use Rattle.vertex.proofs.Slots.{all_stay, none_stay}
 use Rattle.vertex.specs.Rules.{AttributeLawful, SlotLawful, PairwiseDifferent, Lawful, InRange}
 

@@ -2,8 +2,7 @@
 use Rattle.std.proofs.Common.{◌≡◌, ℕ, ◌+◌, ◌<◌, Bool, List, length, get_or, drop, Ok, Err, Option, Result, sym, refl, ap, ◌∙◌, arith}
 use Rattle.std.proofs.lemmas.List.{at_drop_more}
 use Rattle.faults.specs.Faults.{first_of, answer}
-use Rattle.std.proofs.lemmas.Grind.{common_steps}
-use Rattle.faults.proofs.Order.{first_of-append, lists_refused, lists_passed}
+use Rattle.faults.proofs.Order.{lists_refused, lists_passed}
 use Rattle.device.specs.declared.Device.{Device}
 use Rattle.descriptor.specs.declared.vertex.VertexAttribute.{VertexAttribute}
 use Rattle.descriptor.specs.declared.vertex.VertexBufferLayout.{VertexBufferLayout}
@@ -13,9 +12,6 @@ use Rattle.vertex.specs.Order.{attributes_verdicts, greatest_end, claim_verdicts
 -- the answer of a check that has no value
 abbrev pub passes : Option VertexStateError → Result (Unit {0}) VertexStateError
 passes o = answer o tt
-
--- for `grind`: calls with `?`, one after the other, answer the first fault of their verdicts one after the other
-pub ruleset in_order = (arith, common_steps, first_of-append)
 
 -- the first round over a slot's attributes, with the greatest end so far
 abbrev pub attributes_answer : Device → ℕ → ℕ → List VertexAttribute → Result ℕ VertexStateError

@@ -11,7 +11,7 @@ use Rattle.descriptor.specs.declared.vertex.VertexBufferLayout.{VertexBufferLayo
 use Rattle.vertex.specs.Order.{attribute_verdicts, attributes_verdicts, ranges_verdicts}
 use Rattle.vertex.specs.Claims.{InList}
 use Rattle.vertex.specs.Rules.{InRange}
-use Rattle.vertex.proofs.Loops.{in_order}
+use Rattle.faults.proofs.Verdicts.{in_order}
 
 -- the locations of attributes that pass the first round are below the limit
 low : (d : Device) (most : ℕ) (a : VertexAttribute) → first_of (attribute_verdicts d most a) ≡ None → a.shader_location < 32

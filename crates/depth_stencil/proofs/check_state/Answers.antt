@@ -1,5 +1,6 @@
 -- Each way out gives the value of the whole, from what the calls before it answered.
-use Rattle.depth_stencil.proofs.Steps.{exits, depth_refuses, stencil_refuses, count_refuses, clamp_refuses, topology_answers}
+use Rattle.faults.proofs.Verdicts.{exits}
+use Rattle.depth_stencil.proofs.Steps.{depth_refuses, stencil_refuses, count_refuses, clamp_refuses, topology_answers}
 use Rattle.depth_stencil.proofs.check_state.Goals as goal
 
 pub returns-in_err-check_depth : goal.returns-in_err-check_depth

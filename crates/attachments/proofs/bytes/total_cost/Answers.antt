@@ -1,6 +1,6 @@
 use Rattle.std.proofs.Common.{rules, None}
 use Rattle.std.proofs.lemmas.List.{at_drop_more, at_drop_all}
-use Rattle.faults.proofs.Order.{in_order}
+use Rattle.faults.proofs.Verdicts.{in_order}
 use Rattle.attachments.proofs.Costs.{costs_answer}
 use Rattle.attachments.proofs.bytes.total_cost.Goals as goal
 

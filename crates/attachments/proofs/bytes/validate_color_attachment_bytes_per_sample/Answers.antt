@@ -1,4 +1,4 @@
-use Rattle.faults.proofs.Order.{in_order}
+use Rattle.faults.proofs.Verdicts.{in_order}
 use Rattle.attachments.proofs.Costs.{bytes_judged}
 use Rattle.attachments.proofs.Rounding.{rounding}
 use Rattle.attachments.proofs.bytes.validate_color_attachment_bytes_per_sample.Goals as goal

@@ -1,4 +1,4 @@
-use Rattle.vertex.proofs.Loops.{in_order}
+use Rattle.faults.proofs.Verdicts.{in_order}
 use Rattle.vertex.proofs.Lawful.{ranges_answer_lem}
 use Rattle.vertex.proofs.layout.check_attribute_ranges.Goals as goal
 

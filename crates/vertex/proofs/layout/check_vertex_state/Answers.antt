@@ -1,6 +1,6 @@
 -- Each way out gives the value of the whole; the rest of what is promised follows from that.
 use Rattle.std.proofs.Common.{refl}
-use Rattle.vertex.proofs.Loops.{in_order}
+use Rattle.faults.proofs.Verdicts.{in_order}
 use Rattle.vertex.proofs.Kept.{answers}
 use Rattle.vertex.proofs.layout.check_vertex_state.Goals as goal
 

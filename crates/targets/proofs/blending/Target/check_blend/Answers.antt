@@ -1,5 +1,5 @@
 use Rattle.std.proofs.Common.{arith}
-use Rattle.targets.proofs.Verdicts.{verdict_cases}
+use Rattle.faults.proofs.Verdicts.{verdict_cases}
 use Rattle.targets.proofs.blending.Target.check_blend.Goals as goal
 
 pub returns-in_err-check_component : goal.returns-in_err-check_component

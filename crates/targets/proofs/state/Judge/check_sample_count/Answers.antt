@@ -2,7 +2,7 @@ use Rattle.std.proofs.Common.{rules}
 use Rattle.adapter.specs.declared.samples.SampleCounts.{SampleCounts}
 use Rattle.errors.specs.declared.color.ColorStateError.TheVariants.{InvalidSampleCount}
 use Rattle.errors.specs.declared.create.CreateRenderPipelineError.TheVariants.{ColorState}
-use Rattle.targets.proofs.Verdicts.{mapped}
+use Rattle.faults.proofs.Verdicts.{mapped}
 use Rattle.targets.proofs.state.Judge.check_sample_count.Goals as goal
 
 pub returns : goal.returns

@@ -1,5 +1,5 @@
 use Rattle.std.proofs.Common.{arith}
-use Rattle.targets.proofs.Verdicts.{verdict_cases}
+use Rattle.faults.proofs.Verdicts.{verdict_cases}
 use Rattle.targets.proofs.state.Judge.check_state.Goals as goal
 
 pub returns-in_err-check_uses : goal.returns-in_err-check_uses

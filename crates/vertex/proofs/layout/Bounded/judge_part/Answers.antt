@@ -1,4 +1,4 @@
-use Rattle.vertex.proofs.Loops.{in_order}
+use Rattle.faults.proofs.Verdicts.{in_order}
 use Rattle.vertex.proofs.Slots.{all_low}
 use Rattle.vertex.proofs.layout.Bounded.judge_part.Goals as goal
 

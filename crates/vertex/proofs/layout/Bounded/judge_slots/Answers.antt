@@ -2,7 +2,7 @@ use Rattle.std.proofs.Common.{set, None, ap, ◌∙◌, arith}
 use Rattle.faults.proofs.Order.{value_from_ok}
 use Rattle.faults.proofs.Fixed.{filled_more}
 use Rattle.vertex.specs.Order.{step_of}
-use Rattle.vertex.proofs.Loops.{in_order}
+use Rattle.faults.proofs.Verdicts.{in_order}
 use Rattle.vertex.proofs.Slots.{slot_stays}
 use Rattle.vertex.proofs.layout.Bounded.judge_slots.Goals as goal
 
