@@ -1,8 +1,8 @@
 -- The checks of a state, one call after the other: each that refuses answers for the whole, once those before it have passed.
 use Rattle.std.proofs.Common.{◌≡◌, ℕ, not, List, [], ◌∷◌, ◌++◌, map, Ok, Err, Option, Result}
 use Rattle.faults.specs.Faults.{fault_if, first_of, answer, within}
-use Rattle.faults.proofs.Order.{value_from_ok}
-use Rattle.faults.proofs.Sequence.{stop, skip, stop_in, skip_in, last, stop_list_in, skip_list_in}
+use Rattle.faults.proofs.Order.{or_first, value_from_ok}
+use Rattle.faults.proofs.Sequence.{skip, stop_in, skip_in, last, stop_list_in, skip_list_in}
 use Rattle.formats.specs.Texture.{required_of}
 use Rattle.formats.specs.declared.format_features.TextureFormatFeatures.{TextureFormatFeatures}
 use Rattle.device.specs.Lacking.{features_fault}
@@ -105,7 +105,7 @@ module _ (d : Device) (answers : Answers) (count : ℕ) (topology : PrimitiveTop
                   (skip_in InDepthStencil (count_verdict d answers count ds) (first_of from_clamp) tt tt tt r (rw same at samples) k)
 
               pub clamp_refuses : (e : CreateRenderPipelineError) → Err e ≡ passes (clamp_verdict d ds) → Err e ≡ whole
-              clamp_refuses e h = past_count _ (stop (clamp_verdict d ds) (first_of from_topology) e tt tt h)
+              clamp_refuses e h = past_count _ (or_first (clamp_verdict d ds) (first_of from_topology) e tt tt h)
 
               pub topology_answers : Ok tt ≡ passes (clamp_verdict d ds) → (r : Outcome) → r ≡ passes (topology_verdict topology ds) → r ≡ whole
               topology_answers clamp r h =

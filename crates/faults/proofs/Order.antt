@@ -1,7 +1,7 @@
 -- The laws of ordered verdicts: what `first_of` means, and how it goes through calls with `?` and through loops.
-use Rattle.std.proofs.Common.{◌≡◌, ℕ, zero, suc, ◌+◌, ◌<◌, ◌≤◌, Bool, true, false, List, [], ◌∷◌, ◌++◌, length, get_or, drop, Some, None, Ok, Err, Option, Result, sym, refl, ap, ◌∙◌, subst, not-suc-le-zero, arith}
+use Rattle.std.proofs.Common.{◌≡◌, ℕ, zero, suc, ◌+◌, ◌<◌, Bool, true, false, List, [], ◌∷◌, ◌++◌, length, get_or, drop, Some, None, Ok, Err, Option, Result, sym, refl, ap, ◌∙◌, subst, not-suc-le-zero, arith}
 use Rattle.std.specs.List.{flat_map, AllByRecursion}
-use Rattle.std.proofs.lemmas.List.{at_drop_more, at_drop_all}
+use Rattle.std.proofs.lemmas.List.{at_drop_more}
 use Rattle.std.proofs.lemmas.Bool.{false≢true}
 use Rattle.faults.specs.Faults.{fault_if, or_else, first_of, answer, FirstIn, Judged}
 
@@ -13,17 +13,6 @@ none_from_ok None a x h = refl
 pub value_from_ok : {A E : Type 0} (o : Option E) (a x : A) → Ok x ≡ answer o a → x ≡ a
 value_from_ok (Some e) a x h = cc
 value_from_ok None a x h = cc
-
-pub some_from_err : {A E : Type 0} (o : Option E) (a : A) (e : E) → Err e ≡ answer o a → o ≡ Some e
-some_from_err (Some d) a e h = cc
-some_from_err None a e h = cc
-
--- one verdict with two values: a refusal is the same, and so is what is accepted
-pub same_refusal : {A B E : Type 0} (o : Option E) (a : A) (b : B) (e : E) → Err e ≡ answer o a → Err e ≡ answer o b
-same_refusal o a b e h = ap (λ p. answer p b) (sym (some_from_err o a e h))
-
-pub same_acceptance : {A B E : Type 0} (o : Option E) (a x : A) (b y : B) → Ok x ≡ answer o a → y ≡ b → Ok y ≡ answer o b
-same_acceptance o a x b y h e = ap Ok e ∙ ap (λ p. answer p b) (sym (none_from_ok o a x h))
 
 -- two lists one after the other
 or_assoc : {E : Type 0} (a b c : Option E) → or_else (or_else a b) c ≡ or_else a (or_else b c)
@@ -46,17 +35,6 @@ or_next None p x a b h = refl
 pub or_none : {E : Type 0} (o : Option E) → or_else o None ≡ o
 or_none (Some e) = refl
 or_none None = refl
-
--- the same, where the verdicts of the call stand in front of a list
-module _ {A B E : Type 0} (os ps : List (Option E)) (a : A) (b : B) where
-  split : answer (first_of (os ++ ps)) b ≡ answer (or_else (first_of os) (first_of ps)) b
-  split = ap (λ o. answer o b) (first_of-append os ps)
-
-  pub at_first : (e : E) → Err e ≡ answer (first_of os) a → Err e ≡ answer (first_of (os ++ ps)) b
-  at_first e h = or_first (first_of os) (first_of ps) e a b h ∙ sym split
-
-  pub at_next : (x : A) → Ok x ≡ answer (first_of os) a → answer (first_of (os ++ ps)) b ≡ answer (first_of ps) b
-  at_next x h = split ∙ or_next (first_of os) (first_of ps) x a b h
 
 -- a loop whose answer, from the i-th element on, is R of the rest: the i-th verdict o is the answer, or leaves it to what follows
 module _ {X A E : Type 0} (R : List X → Result A E) (xs : List X) (i : ℕ) (x : X) (o p : Option E) (b : A)
@@ -83,9 +61,6 @@ module _ {X A E : Type 0} (R : List X → Result A E) (xs : List X) (i : ℕ) (x
 
   pub lists_passed : {B : Type 0} (a y : B) → Ok y ≡ answer (first_of os) a → whole ≡ answer (first_of ps) b
   lists_passed a y r = loop_passed R xs i x (first_of os) (first_of ps) b lists h whole q a y r
-
-pub loop_ends : {X A E : Type 0} (R : List X → Result A E) (xs : List X) (i : ℕ) (whole : Result A E) → whole ≡ R (drop i xs) → length xs ≤ i → R [] ≡ whole
-loop_ends R xs i whole q h = sym (q ∙ at_drop_all R xs i h)
 
 -- what `first_of` means
 earlier : {E : Type 0} (os : List (Option E)) (k : ℕ) → ((j : ℕ) → j < k → get_or os j None ≡ None) → (j : ℕ) → j < suc k → get_or (None ∷ os) j None ≡ None

@@ -4,11 +4,7 @@ use Rattle.std.proofs.Common.{◌≡◌, List, [], ◌∷◌, ◌++◌, map, Som
 use Rattle.faults.specs.Faults.{or_else, first_of, answer, within}
 use Rattle.faults.proofs.Order.{first_of-append, or_none}
 
--- one verdict
-pub stop : {A B E : Type 0} (o p : Option E) (e : E) (a : A) (b : B) → Err e ≡ answer o a → Err e ≡ answer (or_else o p) b
-stop (Some d) p e a b h = cc
-stop None p e a b h = cc
-
+-- one verdict that is none
 pub skip : {A B E : Type 0} (o p : Option E) (x a : A) (b : B) (r : Result B E) → Ok x ≡ answer o a → r ≡ answer p b → r ≡ answer (or_else o p) b
 skip (Some d) p x a b r h k = cc
 skip None p x a b r h k = k
@@ -25,14 +21,6 @@ skip_in f None p x a b r h k = k
 -- the last verdict
 pub last : {B E : Type 0} (o : Option E) (b : B) (r : Result B E) → r ≡ answer o b → r ≡ answer (or_else o None) b
 last o b r h = h ∙ ap (λ p. answer p b) (sym (or_none o))
-
--- a list of verdicts
-module _ {A B E : Type 0} (os ps : List (Option E)) where
-  pub stop_list : (e : E) (a : A) (b : B) → Err e ≡ answer (first_of os) a → Err e ≡ answer (first_of (os ++ ps)) b
-  stop_list e a b h = stop (first_of os) (first_of ps) e a b h ∙ ap (λ o. answer o b) (sym (first_of-append os ps))
-
-  pub skip_list : (x a : A) (b : B) (r : Result B E) → Ok x ≡ answer (first_of os) a → r ≡ answer (first_of ps) b → r ≡ answer (first_of (os ++ ps)) b
-  skip_list x a b r h k = skip (first_of os) (first_of ps) x a b r h k ∙ ap (λ o. answer o b) (sym (first_of-append os ps))
 
 -- a list of verdicts, inside an outer fault
 within_or : {E F : Type 0} (f : E → F) (o p : Option E) → or_else (within f o) (within f p) ≡ within f (or_else o p)
@@ -52,11 +40,6 @@ module _ {A B E F : Type 0} (f : E → F) (os : List (Option E)) (ps : List (Opt
 
   pub skip_list_in : (x a : A) (b : B) (r : Result B F) → Ok x ≡ answer (first_of os) a → r ≡ answer (first_of ps) b → r ≡ answer (first_of (map (within f) os ++ ps)) b
   skip_list_in x a b r h k = skip_in f (first_of os) (first_of ps) x a b r h k ∙ ap (λ o. answer o b) (sym (joint f os ps))
-
--- an inner verdict is none exactly if the outer one is
-pub within_none : {E F : Type 0} (f : E → F) (o : Option E) → within f o ≡ None → o ≡ None
-within_none f (Some e) h = cc
-within_none f None h = refl
 
 pub none_within : {E F : Type 0} (f : E → F) (o : Option E) → o ≡ None → within f o ≡ None
 none_within f o h = ap (within f) h

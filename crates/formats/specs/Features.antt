@@ -1,5 +1,5 @@
 -- Sets of features and of downlevel flags: the place of each name, and when one set is part of another.
-use Rattle.std.specs.Prelude.{ℕ, ◌^◌, Bool, bit_or}
+use Rattle.std.specs.Prelude.{ℕ, ◌^◌, Bool}
 use Rattle.formats.specs.Flags.{holds}
 use Rattle.formats.specs.declared.features.Features.{Features}
 use Rattle.formats.specs.declared.features.DownlevelFlags.{DownlevelFlags}
@@ -13,10 +13,6 @@ includes_flags fs gs = holds fs.bits gs.bits
 
 abbrev pub no_features : Features
 no_features = record { bits = 0 }
-
--- what is in the one or in the other
-abbrev pub united : Features → Features → Features
-united fs gs = record { bits = bit_or fs.bits gs.bits }
 
 -- the set of the one feature at a place
 abbrev pub feature_at : ℕ → Features

@@ -2,7 +2,7 @@
 use Rattle.std.proofs.Common.{◌≡◌, ℕ, ◌+◌, ◌%◌, ◌≤◌, Bool, true, false, not, eqb, ◌≢◌, List, [], ◌∷◌, ◌++◌, length, Some, None, Option, Result, refl, arith}
 use Rattle.std.specs.List.{ContainsAt, AllByRecursion}
 use Rattle.std.proofs.ByRecursion.{all-has, all_has_itself, All-weaker}
-use Rattle.std.proofs.lemmas.Bool.{not-false, not_from_true, lt-leb, eqb-true, eq-eqb, eqb-false, ne_eqb, or_parts, or_from}
+use Rattle.std.proofs.lemmas.Bool.{not-false, lt-leb, eqb-true, eqb-false, ne_eqb, or_parts, or_from}
 use Rattle.faults.specs.Faults.{first_of, Judged}
 use Rattle.faults.proofs.Order.{each_none, none_each, if_not, judged}
 use Rattle.formats.specs.Features.{includes, vertex_attribute_64bit}
@@ -22,9 +22,6 @@ use Rattle.vertex.specs.Rules.{AttributeLawful, SlotLawful, PairwiseDifferent, L
 -- a test of an equation that is denied
 differs : (a b : ℕ) → not (eqb a b) ≡ false → a ≡ b
 differs a b h = eqb-true a b (not-false _ h)
-
-agrees : (a b : ℕ) → a ≡ b → not (eqb a b) ≡ false
-agrees a b h = not_from_true _ (eq-eqb a b h)
 
 -- the feature of a format
 module _ (d : Device) (a : VertexAttribute) where
