@@ -1,5 +1,5 @@
 // A color target of a style: its format, which channels are written, and how a color is blended with the one that is there.
-ghost use Rattle.std.specs.Prelude.{◌≡◌, Decides, refl};
+ghost use Rattle.std.specs.Prelude.{◌≡◌, ◌↔◌, IsTrue, refl};
 ghost use Rattle.descriptor.specs.Blend.{second_source, is_min_max, is_one, is_constant, uses_constant, reads_second, unknown_bits, writes_like, Alike};
 
 use formats::flags::Flags;
@@ -154,7 +154,7 @@ impl ColorTargetState {
     // Whether the two write the same channels, blended in the same way.
     pub fn writes_like(&self, other: &ColorTargetState) -> bool
         ensures value { result ≡ writes_like self.now other.now }
-        ensures exactly { Decides result (Alike self.now other.now) }
+        ensures exactly { IsTrue result ↔ Alike self.now other.now }
     {
         self.write_mask == other.write_mask && self.blend == other.blend
     }

@@ -1,5 +1,5 @@
 // The depth-stencil state of a style: what is compared and written, and by how much depths are biased.
-ghost use Rattle.std.specs.Prelude.{◌≡◌, not, Decides};
+ghost use Rattle.std.specs.Prelude.{◌≡◌, ◌↔◌, not, IsTrue};
 ghost use Rattle.descriptor.specs.DepthStencil.{is_always, compares_by_value, is_keep, is_replace, idle, face_needs_reference, writes_nothing, depth_enabled, depth_written, stencil_enabled, needs_reference, stencil_read_only, WritesStencil, nonzero, biased, clamped};
 
 use crate::primitive::Face;
@@ -197,7 +197,7 @@ impl DepthStencilState {
     // Whether the stencil is not written, a face that is culled left aside.
     pub fn is_stencil_read_only(&self, cull_mode: Option<Face>) -> bool
         ensures value { result ≡ stencil_read_only cull_mode self.now.stencil }
-        ensures exactly { Decides (not result) (WritesStencil cull_mode self.now.stencil) }
+        ensures exactly { IsTrue (not result) ↔ WritesStencil cull_mode self.now.stencil }
     {
         self.stencil.is_read_only(cull_mode)
     }
