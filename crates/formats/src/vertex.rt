@@ -143,7 +143,7 @@ mod tests {
 
     // No format is left out of the list.
     #[test]
-    fn all(rt: HostRuntime) {
+    fn all_in_order(rt: HostRuntime) {
         for (place, format) in VertexFormat::ALL.iter().enumerate() {
             assert_eq!(rt; *format as usize, place);
         }
