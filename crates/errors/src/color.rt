@@ -1,4 +1,5 @@
 // The faults of one color target.
+use crate::samples::write_sample_count;
 use descriptor::blend::{BlendFactor, ColorWrites};
 use formats::flags::Flags;
 use formats::texture::TextureFormat;
@@ -38,10 +39,7 @@ impl fmt::Display for ColorStateError {
                 format,
                 guaranteed,
                 supported,
-            } => write!(
-                f,
-                "{format:?} cannot have {count} samples; the counts that are guaranteed sum up to {guaranteed}, those of the adapter to {supported}"
-            ),
+            } => write_sample_count(f, *count, *format, *guaranteed, *supported),
             Self::InvalidWriteMask(mask) => write!(
                 f,
                 "write mask {} has a bit that is no channel's",

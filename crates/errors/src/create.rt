@@ -33,6 +33,7 @@ pub enum CreateRenderPipelineError {
     NoTargetSpecified,
 }
 
+// Written out: a derived `From` has no contract, and here clauses say which fault a `?` makes.
 impl From<ColorAttachmentError> for CreateRenderPipelineError {
     ghost from_gives = { λ e r. r ≡ InAttachment e };
 

@@ -1,4 +1,5 @@
 // The faults of a depth-stencil state.
+use crate::samples::write_sample_count;
 use descriptor::primitive::PrimitiveTopology;
 use formats::texture::TextureFormat;
 use std::fmt;
@@ -39,10 +40,7 @@ impl fmt::Display for DepthStencilStateError {
                 format,
                 guaranteed,
                 supported,
-            } => write!(
-                f,
-                "{format:?} cannot have {count} samples; the counts that are guaranteed sum up to {guaranteed}, those of the adapter to {supported}"
-            ),
+            } => write_sample_count(f, *count, *format, *guaranteed, *supported),
             Self::DepthBiasWithIncompatibleTopology(topology) => {
                 write!(f, "a depth bias is for triangles, and not for {topology:?}")
             }

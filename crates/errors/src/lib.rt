@@ -4,3 +4,4 @@
 pub mod color;
 pub mod create;
 pub mod depth_stencil;
+mod samples;

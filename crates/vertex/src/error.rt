@@ -49,6 +49,7 @@ pub enum VertexStateError {
     MissingFeatures(MissingFeatures),
 }
 
+// Written out: a derived `From` has no contract, and here clauses say which fault a `?` makes.
 impl From<MissingFeatures> for VertexStateError {
     ghost from_gives = { λ e r. r ≡ Lacks e };
 
