@@ -23,6 +23,7 @@ impl TextureFormatFeatureFlags {
     pub fn sample_count_supported(self, count: u32) -> bool
         ensures { result ≡ supports self count }
     {
+        // A match: each count has a flag of its own, and `matches!` would be no plainer.
         match count {
             1 => true,
             2 => self.multisample_x2,
