@@ -2,7 +2,7 @@
 use formats::texture::TextureFormat;
 use std::fmt;
 
-pub fn write_sample_count<W: fmt::Write>(
+pub(crate) fn write_sample_count<W: fmt::Write>(
     f: &mut fmt::Formatter<W>,
     count: u32,
     format: TextureFormat,

@@ -1,8 +1,24 @@
 // What a device can do beyond the least: a set of features and a set of downlevel flags.
 ghost use Rattle.std.specs.Prelude.{refl};
 
-use crate::flags::{Flags, NamedFlags, write_names};
+use crate::flags::{Flags, NamedFlags};
 use std::fmt;
+
+// The names of the flags of a set that are in the list, with a bar between two.
+fn write_names<S: Flags, W: fmt::Write>(
+    flags: S,
+    named: &[(S, &str)],
+    f: &mut fmt::Formatter<W>,
+) -> fmt::Result {
+    let held = named.iter().filter(|(flag, _)| flags.contains(*flag));
+    for (i, (_, name)) in held.enumerate() {
+        if i > 0 {
+            f.write_str(" | ")?;
+        }
+        f.write_str(name)?;
+    }
+    Ok(())
+}
 
 #[derive(Clone, Copy, PartialEq, Eq, Debug)]
 pub struct Features {

@@ -48,19 +48,3 @@ pub trait NamedFlags: Flags + fmt::Display {
     // What a flag of the set is called.
     const KIND: &'static str;
 }
-
-// The names of the flags of a set that are in the list, with a bar between two.
-pub(crate) fn write_names<S: Flags, W: fmt::Write>(
-    flags: S,
-    named: &[(S, &str)],
-    f: &mut fmt::Formatter<W>,
-) -> fmt::Result {
-    let held = named.iter().filter(|(flag, _)| flags.contains(*flag));
-    for (i, (_, name)) in held.enumerate() {
-        if i > 0 {
-            f.write_str(" | ")?;
-        }
-        f.write_str(name)?;
-    }
-    Ok(())
-}

@@ -14,13 +14,13 @@ use keyed::{Entry, insert};
 // The locations that attributes have claimed. There is always room for a new one: 32 places, and locations below 32.
 // An array and no map of std's, since nothing here may allocate.
 #[derive(Drop)]
-pub struct Locations {
+pub(crate) struct Locations {
     places: [Option<Entry<u32, VertexFormat>>; 32],
     ghost roomy: { Roomy places },
 }
 
 impl Locations {
-    pub fn new() -> Locations
+    pub(crate) fn new() -> Locations
         ensures { claimed result.places ≡ unused }
     {
         Locations { places: [None; 32] }
@@ -48,7 +48,7 @@ impl Locations {
     }
 
     // The second round at the attributes of one slot.
-    pub fn claim_attributes(
+    pub(crate) fn claim_attributes(
         &mut self,
         device: &Device,
         part: &[VertexAttribute],
