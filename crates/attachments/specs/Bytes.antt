@@ -1,6 +1,5 @@
 -- How many color attachments there may be, and how many bytes they may take for one sample.
-use Rattle.std.specs.Prelude.{◌≡◌, ℕ, ◌+◌, ◌-◌, ◌%◌, ◌<◌, ◌≤◌, Bool, true, false, not, List, [], ◌∷◌, ◌++◌, is_some, Some, None, Option, Result, nat_lt}
-use Rattle.std.specs.List.{ContainsAt}
+use Rattle.std.specs.Prelude.{◌≡◌, ℕ, ◌+◌, ◌-◌, ◌%◌, ◌<◌, ◌≤◌, Bool, true, false, not, List, [], ◌∷◌, ◌++◌, is_some, Some, None, Contains, Option, Result, nat_lt}
 use Rattle.faults.specs.Faults.{fault_if, Judged}
 use Rattle.formats.specs.Texture.{cost_of}
 use Rattle.formats.specs.declared.texture.TargetCost.{TargetCost}
@@ -60,7 +59,7 @@ bytes_verdicts d colors = cost_verdicts 0 colors ++ (total_verdict d colors ∷ 
 
 -- the same in words
 pub record BytesLawful (d : Device) (colors : List (Option TextureFormat)) : Type 0 where
-  pub priced : (f : TextureFormat) → ContainsAt colors (Some f) → is_some (cost_of f) ≡ true
+  pub priced : (f : TextureFormat) → Contains colors (Some f) → is_some (cost_of f) ≡ true
   pub total : bytes_of colors ≤ d.limits.max_color_attachment_bytes_per_sample
 
 abbrev pub BytesJudged : Device → List (Option TextureFormat) → Result ℕ ColorAttachmentError → Type 0

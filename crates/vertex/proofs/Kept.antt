@@ -1,7 +1,6 @@
 -- What an accepted vertex state keeps, in words.
-use Rattle.std.proofs.Common.{◌≡◌, ℕ, ◌≤◌, max, ◌⊎◌, List, [], ◌∷◌, length, get_or, Some, None, Option, Result, sym, refl, inl, inr, arith}
-use Rattle.std.specs.List.{ContainsAt, AllByRecursion}
-use Rattle.std.proofs.ByRecursion.{all-has, has_get_or, has_append_right}
+use Rattle.std.proofs.Common.{◌≡◌, ℕ, ◌≤◌, max, ◌⊎◌, List, [], ◌∷◌, length, get_or, Some, None, All, Contains, Option, Result, sym, refl, inl, inr, arith}
+use Rattle.std.proofs.lemmas.List.Elements.{All-nil, All-cons, All-head, All-contains, Contains-get_or, Contains-append_right}
 use Rattle.std.proofs.lemmas.List.{get_or_past}
 use Rattle.std.proofs.lemmas.Grind.{common_steps}
 use Rattle.std.proofs.lemmas.Bool.{cases_lt}
@@ -22,13 +21,16 @@ from_start : (m : ℕ) (part : List VertexAttribute) → m ≤ greatest_end m pa
 from_start m [] = omega arith
 from_start m (a ∷ rest) = omega (arith, from_start (max m (attribute_end a)) rest)
 
-each_end : (m : ℕ) (part : List VertexAttribute) → AllByRecursion (λ a. attribute_end a ≤ greatest_end m part) part
-each_end m [] = tt
+abbrev Within : ℕ → VertexAttribute → Type 0
+Within n a = attribute_end a ≤ n
+
+each_end : (m : ℕ) (part : List VertexAttribute) → All (Within (greatest_end m part)) part
+each_end m [] = All-nil (Within m)
 each_end m (a ∷ rest) =
-    (omega (arith, from_start (max m (attribute_end a)) rest), each_end (max m (attribute_end a)) rest)
+    All-cons (Within (greatest_end m (a ∷ rest))) a rest (omega (arith, from_start (max m (attribute_end a)) rest)) (each_end (max m (attribute_end a)) rest)
 
 abbrev OneOf : ℕ → List VertexAttribute → Type 0
-OneOf n part = (a : VertexAttribute) × ContainsAt part a × (attribute_end a ≡ n)
+OneOf n part = (a : VertexAttribute) × Contains part a × (attribute_end a ≡ n)
 
 one_of : (m : ℕ) (part : List VertexAttribute) → (greatest_end m part ≡ m) ⊎ OneOf (greatest_end m part) part
 one_of m [] = inl refl
@@ -36,25 +38,25 @@ one_of m (a ∷ rest) =
     elim (one_of (max m (attribute_end a)) rest) [
       | inl e ↦
           elim (cases_lt m (attribute_end a)) [
-            | inl l ↦ inr (a, has_get_or (a ∷ rest) 0 a (omega arith), omega arith)
+            | inl l ↦ inr (a, Contains-get_or (a ∷ rest) 0 a (omega arith), omega arith)
             | inr l ↦ inl (omega arith)
           ]
-      | inr w ↦ inr (w.0, has_append_right (a ∷ []) rest w.0 w.1, w.2)
+      | inr w ↦ inr (w.0, Contains-append_right (a ∷ []) rest w.0 w.1, w.2)
     ]
 
 reached : (part : List VertexAttribute) → ((part ≡ []) × (last_stride_of part ≡ 0)) ⊎ OneOf (last_stride_of part) part
 reached [] = inl (refl, refl)
 reached (a ∷ rest) =
     elim (one_of 0 (a ∷ rest)) [
-      | inl e ↦ let h = (each_end 0 (a ∷ rest)).0 in inr (a, has_get_or (a ∷ rest) 0 a (omega arith), omega arith)
+      | inl e ↦ let h = All-head (Within (last_stride_of (a ∷ rest))) a rest (each_end 0 (a ∷ rest)) in inr (a, Contains-get_or (a ∷ rest) 0 a (omega arith), omega arith)
       | inr w ↦ inr w
     ]
 
 greatest : (part : List VertexAttribute) → Greatest part (last_stride_of part)
-greatest part = record { covers = λ a w. all-has (λ b. attribute_end b ≤ last_stride_of part) part a (each_end 0 part) w; reached = reached part }
+greatest part = record { covers = λ a w. All-contains (Within (last_stride_of part)) part a (each_end 0 part) w; reached = reached part }
 
 -- where no end is beyond n, the greatest is not
-within_bound : (part : List VertexAttribute) (n : ℕ) → ((a : VertexAttribute) → ContainsAt part a → attribute_end a ≤ n) → last_stride_of part ≤ n
+within_bound : (part : List VertexAttribute) (n : ℕ) → ((a : VertexAttribute) → Contains part a → attribute_end a ≤ n) → last_stride_of part ≤ n
 within_bound part n f =
     elim (reached part) [
       | inl e ↦ let z = e.1 in omega arith
@@ -65,7 +67,7 @@ module _ (d : Device) (slots : List (Option VertexBufferLayout)) (attributes : L
   reach_bound : (s : VertexBufferLayout) → SlotLawful d attributes s → reach d s ≤ 536870912
   reach_bound s k = grind (arith, k.stride, d.limits.stride)
 
-  keeps : (o : Option VertexBufferLayout) → ContainsAt slots o → KeptOf attributes o (step_of attributes o)
+  keeps : (o : Option VertexBufferLayout) → Contains slots o → KeptOf attributes o (step_of attributes o)
   keeps None w = tt
   keeps (Some s) w =
       let k = l.each s w in
@@ -92,7 +94,7 @@ module _ (d : Device) (slots : List (Option VertexBufferLayout)) (attributes : L
       elim (cases_lt i (length slots)) [
         | inl h ↦
             let e : get_or (steps_of slots attributes) i None ≡ step_of attributes (get_or slots i None) = grind (arith, common_steps) in
-            rw e (keeps (get_or slots i None) (has_get_or slots i None h))
+            rw e (keeps (get_or slots i None) (Contains-get_or slots i None h))
         | inr h ↦ empty i h
       ]
 

@@ -1,7 +1,6 @@
 -- The verdicts in order are all none exactly if every rule holds.
-use Rattle.std.proofs.Common.{◌≡◌, ℕ, ◌+◌, ◌%◌, ◌≤◌, Bool, true, false, not, eqb, ◌≢◌, List, [], ◌∷◌, ◌++◌, length, Some, None, Option, Result, refl, arith}
-use Rattle.std.specs.List.{ContainsAt, AllByRecursion}
-use Rattle.std.proofs.ByRecursion.{all-has, all_has_itself, All-weaker}
+use Rattle.std.proofs.Common.{◌≡◌, ℕ, ◌+◌, ◌%◌, ◌≤◌, Bool, true, false, not, eqb, ◌≢◌, List, [], ◌∷◌, ◌++◌, length, get_or, Some, None, All, Contains, Option, Result, refl, arith}
+use Rattle.std.proofs.lemmas.List.Elements.{All-from_recursion, recursion_from_All, All-nil, All-cons, All-head, All-tail, All-weaker, All-contains, All-contains_itself}
 use Rattle.std.proofs.lemmas.Bool.{not-false, lt-leb, eqb-true, eqb-false, ne_eqb, or_parts, or_from}
 use Rattle.faults.specs.Faults.{first_of, Judged}
 use Rattle.faults.proofs.Order.{each_none, none_each, if_not, judged}
@@ -16,7 +15,7 @@ use Rattle.vertex.specs.Order.{attribute_verdicts, attributes_verdicts, far_verd
 use Rattle.vertex.specs.Claims.{InList}
 use Rattle.vertex.proofs.Loops.{ranges_answer}
 use Rattle.faults.proofs.Verdicts.{in_order}
-use Rattle.vertex.proofs.Slots.{all_stay, none_stay}
+use Rattle.vertex.proofs.Slots.{all_stay, none_stay, from_each}
 use Rattle.vertex.specs.Rules.{AttributeLawful, SlotLawful, PairwiseDifferent, Lawful, InRange}
 
 -- a test of an equation that is denied
@@ -53,9 +52,8 @@ module _ (d : Device) (a : VertexAttribute) where
     second_round l = (if_not _ _ (lt-leb _ _ l.near), none_format l.format)
 
 -- two facts of each element make a third
-all_both : {X : Type 0} (P Q R : X → Type 0) → ((x : X) → P x → Q x → R x) → (xs : List X) → AllByRecursion P xs → AllByRecursion Q xs → AllByRecursion R xs
-all_both P Q R f [] p q = tt
-all_both P Q R f (x ∷ xs) p q = (f x p.0 q.0, all_both P Q R f xs p.1 q.1)
+all_both : {X : Type 0} (P Q R : X → Type 0) → ((x : X) → P x → Q x → R x) → (xs : List X) → All P xs → All Q xs → All R xs
+all_both P Q R f xs p q k d l = f (get_or xs k d) (p k d l) (q k d l)
 
 -- each attribute's location was free when it was claimed
 abbrev Fresh : (ℕ → Bool) → List VertexAttribute → Type 0
@@ -78,10 +76,10 @@ fresh_right used (x ∷ xs) ys p = fresh_right (mark used x) xs ys p.1
 abbrev Free : (ℕ → Bool) → VertexAttribute → Type 0
 Free used a = used a.shader_location ≡ false
 
-fresh_free : (used : ℕ → Bool) (xs : List VertexAttribute) → Fresh used xs → AllByRecursion (Free used) xs
-fresh_free used [] p = tt
+fresh_free : (used : ℕ → Bool) (xs : List VertexAttribute) → Fresh used xs → All (Free used) xs
+fresh_free used [] p = All-nil (Free used)
 fresh_free used (x ∷ xs) p =
-    (p.0, All-weaker (Free (mark used x)) (Free used) (λ a h. (or_parts _ _ h).1) xs (fresh_free (mark used x) xs p.1))
+    All-cons (Free used) x xs p.0 (All-weaker (Free (mark used x)) (Free used) (λ a h. (or_parts _ _ h).1) xs (fresh_free (mark used x) xs p.1))
 
 fresh_different : (used : ℕ → Bool) (xs : List VertexAttribute) → Fresh used xs → PairwiseDifferent xs
 fresh_different used [] p = tt
@@ -90,36 +88,37 @@ fresh_different used (x ∷ xs) p = (
   fresh_different (mark used x) xs p.1,
 )
 
-different_fresh : (used : ℕ → Bool) (xs : List VertexAttribute) → AllByRecursion (Free used) xs → PairwiseDifferent xs → Fresh used xs
+different_fresh : (used : ℕ → Bool) (xs : List VertexAttribute) → All (Free used) xs → PairwiseDifferent xs → Fresh used xs
 different_fresh used [] p q = tt
 different_fresh used (x ∷ xs) p q = (
-  p.0,
+  All-head (Free used) x xs p,
   different_fresh (mark used x) xs
-      (all_both (λ b. x.shader_location ≢ b.shader_location) (Free used) (Free (mark used x)) (λ b n f. or_from _ _ (ne_eqb _ _ n) f) xs q.0 p.1)
+      (all_both (λ b. x.shader_location ≢ b.shader_location) (Free used) (Free (mark used x)) (λ b n f. or_from _ _ (ne_eqb _ _ n) f) xs q.0 (All-tail (Free used) x xs p))
       q.1,
 )
 
-all_unused : (xs : List VertexAttribute) → AllByRecursion (Free unused) xs
-all_unused [] = tt
-all_unused (x ∷ xs) = (refl, all_unused xs)
+all_unused : (xs : List VertexAttribute) → All (Free unused) xs
+all_unused xs k d l = refl
 
 -- the second round at the attributes of a slot
 module _ (d : Device) where
-  claims_none : (used : ℕ → Bool) (part : List VertexAttribute) → first_of (claims_verdicts d used part) ≡ None → AllByRecursion (Claimable d) part × Fresh used part
-  claims_none used [] h = (tt, tt)
+  claims_none : (used : ℕ → Bool) (part : List VertexAttribute) → first_of (claims_verdicts d used part) ≡ None → All (Claimable d) part × Fresh used part
+  claims_none used [] h = (All-nil (Claimable d), tt)
   claims_none used (a ∷ rest) h =
       let r = claims_none (mark used a) rest (grind (in_order, h)) in
-      (((grind (in_order, h), grind (in_order, h)), r.0), (grind (in_order, h), r.1))
+      (All-cons (Claimable d) a rest (grind (in_order, h), grind (in_order, h)) r.0, (grind (in_order, h), r.1))
 
-  none_claims : (used : ℕ → Bool) (part : List VertexAttribute) → AllByRecursion (Claimable d) part → Fresh used part → first_of (claims_verdicts d used part) ≡ None
+  none_claims : (used : ℕ → Bool) (part : List VertexAttribute) → All (Claimable d) part → Fresh used part → first_of (claims_verdicts d used part) ≡ None
   none_claims used [] c f = refl
-  none_claims used (a ∷ rest) c f = grind (in_order, c.0.0, c.0.1, f.0, none_claims (mark used a) rest c.1 f.1)
+  none_claims used (a ∷ rest) c f =
+      let here = All-head (Claimable d) a rest c in
+      grind (in_order, here.0, here.1, f.0, none_claims (mark used a) rest (All-tail (Claimable d) a rest c) f.1)
 
   -- a slot, but for its range and for clashes
   pub record PartLawful (s : VertexBufferLayout) (part : List VertexAttribute) : Type 0 where
     pub stride : s.array_stride ≤ d.limits.max_vertex_buffer_array_stride
     pub aligned : s.array_stride % 4 ≡ 0
-    pub each : AllByRecursion (AttributeLawful d (reach d s)) part
+    pub each : All (AttributeLawful d (reach d s)) part
 
   module _ (index : ℕ) (used : ℕ → Bool) (s : VertexBufferLayout) (part : List VertexAttribute) where
     part_none : first_of (part_verdicts d index used s part) ≡ None → PartLawful s part × Fresh used part
@@ -131,7 +130,7 @@ module _ (d : Device) where
             aligned = grind (in_order, h);
             each =
                 all_both (λ a. first_of (attribute_verdicts d (reach d s) a) ≡ None) (Claimable d) (AttributeLawful d (reach d s)) (λ a. attribute_lawful d a (reach d s)) part
-                (each_none (attribute_verdicts d (reach d s)) part first) c.0;
+                (All-from_recursion (λ a. first_of (attribute_verdicts d (reach d s) a) ≡ None) part (each_none (attribute_verdicts d (reach d s)) part first)) c.0;
           },
           c.1,
         )
@@ -139,8 +138,9 @@ module _ (d : Device) where
     none_part : PartLawful s part → Fresh used part → first_of (part_verdicts d index used s part) ≡ None
     none_part l f =
         let first =
-        none_each (attribute_verdicts d (reach d s)) part (All-weaker (AttributeLawful d (reach d s)) (λ a. first_of (attribute_verdicts d (reach d s) a) ≡ None) (λ a. first_round d a (reach d s)) part l.each) in
-        let second = none_claims used part (All-weaker (AttributeLawful d (reach d s)) (Claimable d) (λ a. second_round d a (reach d s)) part l.each) f in
+        none_each (attribute_verdicts d (reach d s)) part
+        (recursion_from_All (λ a. first_of (attribute_verdicts d (reach d s) a) ≡ None) part (λ k a h. first_round d (get_or part k a) (reach d s) (l.each k a h))) in
+        let second = none_claims used part (λ k a h. second_round d (get_or part k a) (reach d s) (l.each k a h)) f in
         grind (in_order, first, second, l.stride, l.aligned)
 
   -- slot by slot
@@ -149,33 +149,31 @@ module _ (d : Device) where
     Holds None = Unit {0}
     Holds (Some s) = PartLawful s (part_of attributes s)
 
-    slots_none : (index : ℕ) (used : ℕ → Bool) (slots : List (Option VertexBufferLayout)) → first_of (slots_verdicts d attributes index used slots) ≡ None → AllByRecursion Holds slots × Fresh used (attributes_of attributes slots)
-    slots_none index used [] h = (tt, tt)
-    slots_none index used (None ∷ rest) h = let r = slots_none (index + 1) used rest h in ((tt, r.0), r.1)
+    slots_none : (index : ℕ) (used : ℕ → Bool) (slots : List (Option VertexBufferLayout)) → first_of (slots_verdicts d attributes index used slots) ≡ None → All Holds slots × Fresh used (attributes_of attributes slots)
+    slots_none index used [] h = (All-nil Holds, tt)
+    slots_none index used (None ∷ rest) h = let r = slots_none (index + 1) used rest h in (All-cons Holds None rest tt r.0, r.1)
     slots_none index used (Some s ∷ rest) h =
         let v = part_none index used s (part_of attributes s) (grind (in_order, h)) in
         let r = slots_none (index + 1) (mark_all used (part_of attributes s)) rest (grind (in_order, h)) in
-        ((v.0, r.0), fresh_append used (part_of attributes s) (attributes_of attributes rest) v.1 r.1)
+        (All-cons Holds (Some s) rest v.0 r.0, fresh_append used (part_of attributes s) (attributes_of attributes rest) v.1 r.1)
 
-    none_slots : (index : ℕ) (used : ℕ → Bool) (slots : List (Option VertexBufferLayout)) → AllByRecursion Holds slots → Fresh used (attributes_of attributes slots) → first_of (slots_verdicts d attributes index used slots) ≡ None
+    none_slots : (index : ℕ) (used : ℕ → Bool) (slots : List (Option VertexBufferLayout)) → All Holds slots → Fresh used (attributes_of attributes slots) → first_of (slots_verdicts d attributes index used slots) ≡ None
     none_slots index used [] l f = refl
-    none_slots index used (None ∷ rest) l f = none_slots (index + 1) used rest l.1 f
+    none_slots index used (None ∷ rest) l f = none_slots (index + 1) used rest (All-tail Holds None rest l) f
     none_slots index used (Some s ∷ rest) l f =
-        let first = none_part index used s (part_of attributes s) l.0 (fresh_left used (part_of attributes s) (attributes_of attributes rest) f) in
-        let others = none_slots (index + 1) (mark_all used (part_of attributes s)) rest l.1 (fresh_right used (part_of attributes s) (attributes_of attributes rest) f) in
+        let first =
+        none_part index used s (part_of attributes s) (All-head Holds (Some s) rest l) (fresh_left used (part_of attributes s) (attributes_of attributes rest) f) in
+        let others =
+        none_slots (index + 1) (mark_all used (part_of attributes s)) rest (All-tail Holds (Some s) rest l) (fresh_right used (part_of attributes s) (attributes_of attributes rest) f) in
         grind (in_order, first, others)
 
 module _ (slots : List (Option VertexBufferLayout)) (attributes : List VertexAttribute) where
-  -- from the slots that are there to each place
-  from_each : (P : Option VertexBufferLayout → Type 0) → P None → ((s : VertexBufferLayout) → ContainsAt slots (Some s) → P (Some s)) → AllByRecursion P slots
-  from_each P n f = All-weaker (ContainsAt slots) P (λ o. elim o as (λ v. ContainsAt slots v → P v) [ Some s ↦ f s | None ↦ λ h. n ]) slots (all_has_itself slots)
-
   -- the ranges alone
   in_range : first_of (ranges_verdicts (length attributes) 0 slots) ≡ None → InRange slots attributes
-  in_range h s w = all-has (InList attributes) slots (Some s) (all_stay attributes 0 slots h) w
+  in_range h s w = All-contains (InList attributes) slots (Some s) (all_stay attributes 0 slots h) w
 
   passes_in_range : InRange slots attributes → first_of (ranges_verdicts (length attributes) 0 slots) ≡ None
-  passes_in_range l = none_stay attributes 0 slots (from_each (InList attributes) tt l)
+  passes_in_range l = none_stay attributes 0 slots (from_each slots (InList attributes) tt l)
 
   pub ranges_answer_lem : (r : Result (Unit {0}) VertexStateError) → r ≡ ranges_answer (length attributes) 0 slots → Judged (ranges_verdicts (length attributes) 0 slots) tt (InRange slots attributes) r
   ranges_answer_lem r h = judged (ranges_verdicts (length attributes) 0 slots) tt (InRange slots attributes) in_range passes_in_range r h
@@ -184,14 +182,14 @@ module _ (slots : List (Option VertexBufferLayout)) (attributes : List VertexAtt
 module _ (d : Device) (slots : List (Option VertexBufferLayout)) (attributes : List VertexAttribute) where
   slot_lawful : (s : VertexBufferLayout) → InList attributes (Some s) → Holds d attributes (Some s) → SlotLawful d attributes s
   slot_lawful s i l =
-      record { range = i; stride = l.stride; aligned = l.aligned; part = λ a h. all-has (AttributeLawful d (reach d s)) (part_of attributes s) a l.each h }
+      record { range = i; stride = l.stride; aligned = l.aligned; part = λ a h. All-contains (AttributeLawful d (reach d s)) (part_of attributes s) a l.each h }
 
   part_lawful : (s : VertexBufferLayout) → SlotLawful d attributes s → Holds d attributes (Some s)
   part_lawful s l =
       record {
         stride = l.stride;
         aligned = l.aligned;
-        each = All-weaker (ContainsAt (part_of attributes s)) (AttributeLawful d (reach d s)) l.part (part_of attributes s) (all_has_itself (part_of attributes s));
+        each = All-weaker (Contains (part_of attributes s)) (AttributeLawful d (reach d s)) l.part (part_of attributes s) (All-contains_itself (part_of attributes s));
       }
 
   pub lawful : first_of (vertex_verdicts d slots attributes) ≡ None → Lawful d slots attributes
@@ -200,7 +198,7 @@ module _ (d : Device) (slots : List (Option VertexBufferLayout)) (attributes : L
       let v = slots_none d attributes 0 unused slots (grind (in_order, h)) in
       record {
         buffers = grind (in_order, h);
-        each = λ s w. slot_lawful s (in_range slots attributes ranges s w) (all-has (Holds d attributes) slots (Some s) v.0 w);
+        each = λ s w. slot_lawful s (in_range slots attributes ranges s w) (All-contains (Holds d attributes) slots (Some s) v.0 w);
         locations = fresh_different unused (attributes_of attributes slots) v.1;
         total = grind (in_order, h);
       }
@@ -209,6 +207,6 @@ module _ (d : Device) (slots : List (Option VertexBufferLayout)) (attributes : L
   passes_lawful l =
       let ranges = passes_in_range slots attributes (λ s w. (l.each s w).range) in
       let each =
-      none_slots d attributes 0 unused slots (from_each slots attributes (Holds d attributes) tt (λ s w. part_lawful s (l.each s w)))
+      none_slots d attributes 0 unused slots (from_each slots (Holds d attributes) tt (λ s w. part_lawful s (l.each s w)))
       (different_fresh unused (attributes_of attributes slots) (all_unused (attributes_of attributes slots)) l.locations) in
       grind (in_order, ranges, each, l.buffers, l.total)

@@ -1,6 +1,5 @@
 -- The vertex rules in words, with no order among them: a vertex state is lawful if each holds.
-use Rattle.std.specs.Prelude.{◌≡◌, ℕ, ◌%◌, ◌<◌, ◌≤◌, min, true, ◌≢◌, ◌⊎◌, List, [], ◌∷◌, length, Some, None, Ok, Err, sum_by, Option, Result, slice_index_or}
-use Rattle.std.specs.List.{ContainsAt, AllByRecursion}
+use Rattle.std.specs.Prelude.{◌≡◌, ℕ, ◌%◌, ◌<◌, ◌≤◌, min, true, ◌≢◌, ◌⊎◌, List, [], ◌∷◌, length, Some, None, Ok, Err, All, Contains, sum_by, Option, Result, slice_index_or}
 use Rattle.faults.specs.Faults.{Judged}
 use Rattle.formats.specs.Features.{includes, vertex_attribute_64bit}
 use Rattle.formats.specs.Vertex.{size_of, is64bit}
@@ -26,24 +25,24 @@ pub record SlotLawful (d : Device) (attributes : List VertexAttribute) (s : Vert
   pub range : part_end s ≤ length attributes
   pub stride : s.array_stride ≤ d.limits.max_vertex_buffer_array_stride
   pub aligned : s.array_stride % 4 ≡ 0
-  pub part : (a : VertexAttribute) → ContainsAt (part_of attributes s) a → AttributeLawful d (reach d s) a
+  pub part : (a : VertexAttribute) → Contains (part_of attributes s) a → AttributeLawful d (reach d s) a
 
 -- no two of the attributes have one location
 abbrev pub PairwiseDifferent : List VertexAttribute → Type 0
 PairwiseDifferent [] = Unit {0}
-PairwiseDifferent (a ∷ rest) = AllByRecursion (λ b. a.shader_location ≢ b.shader_location) rest × PairwiseDifferent rest
+PairwiseDifferent (a ∷ rest) = All (λ b. a.shader_location ≢ b.shader_location) rest × PairwiseDifferent rest
 
 -- every rule holds
 pub record Lawful (d : Device) (slots : List (Option VertexBufferLayout)) (attributes : List VertexAttribute) : Type 0 where
   pub buffers : length slots ≤ d.limits.max_vertex_buffers
-  pub each : (s : VertexBufferLayout) → ContainsAt slots (Some s) → SlotLawful d attributes s
+  pub each : (s : VertexBufferLayout) → Contains slots (Some s) → SlotLawful d attributes s
   pub locations : PairwiseDifferent (attributes_of attributes slots)
   pub total : sum_by count_of slots ≤ d.limits.max_vertex_attributes
 
 -- n is at least the end of each attribute, and is one of these ends, or 0 where there is no attribute
 pub record Greatest (part : List VertexAttribute) (n : ℕ) : Type 0 where
-  pub covers : (a : VertexAttribute) → ContainsAt part a → attribute_end a ≤ n
-  pub reached : ((part ≡ []) × (n ≡ 0)) ⊎ ((a : VertexAttribute) × ContainsAt part a × (attribute_end a ≡ n))
+  pub covers : (a : VertexAttribute) → Contains part a → attribute_end a ≤ n
+  pub reached : ((part ≡ []) × (n ≡ 0)) ⊎ ((a : VertexAttribute) × Contains part a × (attribute_end a ≡ n))
 
 -- what is kept of a slot; neither number is above the ceiling of strides
 pub record Keeps (attributes : List VertexAttribute) (s : VertexBufferLayout) (t : VertexStep) : Type 0 where
@@ -66,7 +65,7 @@ Accepts slots attributes (Err e) = Unit {0}
 
 -- the part of each slot stays in the attribute list
 abbrev pub InRange : List (Option VertexBufferLayout) → List VertexAttribute → Type 0
-InRange slots attributes = (s : VertexBufferLayout) → ContainsAt slots (Some s) → part_end s ≤ length attributes
+InRange slots attributes = (s : VertexBufferLayout) → Contains slots (Some s) → part_end s ≤ length attributes
 
 -- what the judging of the ranges answers, and that of the whole
 abbrev pub RangesJudged : VertexState → Result (Unit {0}) VertexStateError → Type 0
