@@ -1,7 +1,6 @@
 -- The depth-stencil state of a style: when depth and stencil are enabled, what is written, what is biased.
-use Rattle.std.specs.Prelude.{Bool, true, false, not, ◌&&◌, ◌||◌, ◌≢◌, List, [], ◌∷◌, ℤ, pos, negsuc, Some, None, Option, ◌==◌, Float}
+use Rattle.std.specs.Prelude.{Bool, true, false, not, ◌&&◌, ◌||◌, ◌≢◌, List, [], ◌∷◌, Contains, ℤ, pos, negsuc, Some, None, Option, ◌==◌, Float}
 use Rattle.std.specs.Float.{nan, inf, fin}
-use Rattle.std.specs.List.{ContainsAt}
 use Rattle.descriptor.specs.declared.primitive.Face.{Face}
 use Rattle.descriptor.specs.declared.primitive.Face.TheVariants.{Front, Back}
 use Rattle.descriptor.specs.declared.depth_stencil.CompareFunction.{CompareFunction}
@@ -101,7 +100,7 @@ pub record WritesStencil (cull : Option Face) (s : StencilState) : Type 0 where
   pub face : Face
   pub drawn : cull ≢ Some face
   pub operation : StencilOperation
-  pub has : ContainsAt (operations (face_of s face)) operation
+  pub has : Contains (operations (face_of s face)) operation
   pub writes : operation ≢ Keep
 
 abbrev pub is_on : Option Bool → Bool

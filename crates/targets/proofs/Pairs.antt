@@ -1,10 +1,12 @@
 -- What the targets ask of each other: the loops, and what their verdicts mean.
-use Rattle.std.proofs.Common.{◌≡◌, ℕ, zero, suc, ◌<◌, ◌≤◌, true, false, ◌&&◌, ◌||◌, List, [], ◌∷◌, length, get_or, Some, None, Option, Result, sym, refl, ap, subst, ◌∙◌, inl, inr, not-suc-le-zero, arith}
+use Rattle.std.proofs.Common.{◌≡◌, ◌<◌, true, false, ◌&&◌, ◌||◌, List, [], ◌∷◌, length, Some, None, Decides, Option, Result, sym, refl, ap, subst, ◌∙◌, not-suc-le-zero, arith}
 use Rattle.std.specs.Option.{is_some}
-use Rattle.std.specs.List.{ContainsAt, list_any, list_all, find}
-use Rattle.std.proofs.ByRecursion.{has_get_or}
-use Rattle.std.proofs.lemmas.List.Recursion.{same_from_clauses, or_at, and_at, and_from_places}
-use Rattle.std.proofs.lemmas.Bool.{false_from_ne_true, and_from, or_cases, false≢true}
+use Rattle.std.specs.List.{All, Contains, list_any, list_all, find}
+use Rattle.std.proofs.lemmas.List.Elements.{All-cons, All-tail, All-contains, All-contains_itself, All-weaker, Contains-append_right}
+use Rattle.std.proofs.lemmas.List.Folds.{list_any_none, list_any-from_Any}
+use Rattle.std.proofs.lemmas.List.Recursion.{same_from_clauses}
+use Rattle.std.proofs.lemmas.Map.Made.{Contains-tail}
+use Rattle.std.proofs.lemmas.Bool.{false_from_ne_true, false≢true}
 use Rattle.faults.specs.Faults.{first_of, answer}
 use Rattle.faults.proofs.Order.{judged}
 use Rattle.faults.proofs.Sequence.{last}
@@ -17,7 +19,7 @@ use Rattle.errors.specs.declared.create.CreateRenderPipelineError.{CreateRenderP
 use Rattle.targets.specs.Order.{like_first, alike_after, alike_targets, independent_verdict, reads_second_at, reads_second_any, dual_verdict}
 use Rattle.targets.specs.Rules.{AllAlike, IndependentLawful, DualLawful, IndependentJudged, DualJudged}
 use Rattle.faults.proofs.Verdicts.{verdict_cases}
-use Rattle.std.proofs.lemmas.Bool.Decides.{nat_tests}
+use Rattle.std.proofs.lemmas.Bool.Decides.{Decides-by_and, nat_tests}
 
 abbrev Targets : Type 0
 Targets = List (Option ColorTargetState)
@@ -49,42 +51,35 @@ alike_by_first first (Some f ∷ rest) e =
 same_as : (f s t : ColorTargetState) → Alike f s → Alike f t → Alike s t
 same_as f s t a b = (sym a.0 ∙ b.0, sym a.1 ∙ b.1)
 
-like_at : (f : ColorTargetState) (targets : Targets) → alike_after (Some f) targets ≡ true → (t : ColorTargetState) → ContainsAt targets (Some t) → Alike f t
-like_at f targets h t w =
-    let here = and_at (alike_after (Some f)) (like_first (Some f)) refl (λ _ _. refl) targets w.0 None w.1 h in
-    (alike f t).0 (rw (w.2 None) at here)
+-- a target is empty, or like f
+abbrev Like : ColorTargetState → Option ColorTargetState → Type 0
+Like f None = Unit {0}
+Like f (Some t) = Alike f t
 
-like_one : (f : ColorTargetState) (o : Option ColorTargetState) → ((t : ColorTargetState) → o ≡ Some t → Alike f t) → like_first (Some f) o ≡ true
-like_one f None a = refl
-like_one f (Some t) a = (alike f t).1 (a t refl)
+like_one : (f : ColorTargetState) (o : Option ColorTargetState) → Decides (like_first (Some f) o) (Like f o)
+like_one f None = (λ h. tt, λ l. refl)
+like_one f (Some t) = alike f t
 
-like_everywhere : (f : ColorTargetState) (targets : Targets) → ((t : ColorTargetState) → ContainsAt targets (Some t) → Alike f t) → alike_after (Some f) targets ≡ true
-like_everywhere f targets a =
-    and_from_places (alike_after (Some f)) (like_first (Some f)) refl (λ _ _. refl) targets None
-    (λ i l. like_one f (get_or targets i None) (λ t e. a t (rw e at (has_get_or targets i None l))))
+like_each : (f : ColorTargetState) (targets : Targets) → Decides (alike_after (Some f) targets) (All (Like f) targets)
+like_each f = Decides-by_and (like_first (Some f)) (Like f) (alike_after (Some f)) (like_one f) refl (λ _ _. refl)
 
--- a target is in a list with one more in front
-there : (o : Option ColorTargetState) (targets : Targets) (t : ColorTargetState) → ContainsAt targets (Some t) → ContainsAt (o ∷ targets) (Some t)
-there o targets t w = (suc w.0, (let l = w.1 in omega arith), w.2)
-
-later_at : (targets : Targets) (t : ColorTargetState) (k : ℕ) → k < suc (length targets) → ((x : Option ColorTargetState) → get_or (None ∷ targets) k x ≡ Some t) → ContainsAt targets (Some t)
-later_at targets t zero l e = let n = e None in absurd (cc)
-later_at targets t (suc k) l e = (k, omega arith, e)
-
-later : (targets : Targets) (t : ColorTargetState) → ContainsAt (None ∷ targets) (Some t) → ContainsAt targets (Some t)
-later targets t w = later_at targets t w.0 w.1 w.2
+-- what is true of an empty target, and of each that is not empty, is true of all
+from_each : (targets : Targets) (P : Option ColorTargetState → Type 0) → P None → ((t : ColorTargetState) → Contains targets (Some t) → P (Some t)) → All P targets
+from_each targets P n f =
+    All-weaker (Contains targets) P (λ o. elim o as (λ v. Contains targets v → P v) [ None ↦ λ w. n | Some t ↦ f t ]) targets (All-contains_itself targets)
 
 all_alike : (targets : Targets) → alike_targets targets ≡ true → AllAlike targets
 all_alike [] h s t v w = absurd (not-suc-le-zero v.1)
-all_alike (None ∷ rest) h s t v w = all_alike rest h s t (later rest s v) (later rest t w)
+all_alike (None ∷ rest) h s t v w = all_alike rest h s t (Contains-tail None rest (Some s) (λ e. cc) v) (Contains-tail None rest (Some t) (λ e. cc) w)
 all_alike (Some f ∷ rest) h s t v w =
-    let a = and_from (writes_like f f) (alike_after (Some f) rest) ((alike f f).1 (refl, refl)) h in
-    same_as f s t (like_at f (Some f ∷ rest) a s v) (like_at f (Some f ∷ rest) a t w)
+    let a : All (Like f) (Some f ∷ rest) = All-cons (Like f) (Some f) rest (refl, refl) ((like_each f rest).0 h) in
+    same_as f s t (All-contains (Like f) (Some f ∷ rest) (Some s) a v) (All-contains (Like f) (Some f ∷ rest) (Some t) a w)
 
 alike_from : (targets : Targets) → AllAlike targets → alike_targets targets ≡ true
 alike_from [] a = refl
-alike_from (None ∷ rest) a = alike_from rest (λ s t v w. a s t (there None rest s v) (there None rest t w))
-alike_from (Some f ∷ rest) a = like_everywhere f rest (λ t w. a f t (0, omega arith, λ _. refl) (there (Some f) rest t w))
+alike_from (None ∷ rest) a = alike_from rest (λ s t v w. a s t (Contains-append_right (None ∷ []) rest (Some s) v) (Contains-append_right (None ∷ []) rest (Some t) w))
+alike_from (Some f ∷ rest) a =
+    (like_each f rest).1 (All-tail (Like f) (Some f) rest (from_each (Some f ∷ rest) (Like f) tt (λ t. a f t (0, omega arith, refl))))
 
 module _ (d : Device) (targets : Targets) where
   independent_lawful : first_of (independent_verdict d targets ∷ []) ≡ None → IndependentLawful d targets
@@ -102,29 +97,19 @@ module _ (d : Device) (targets : Targets) where
   independent_judged r h =
       judged (independent_verdict d targets ∷ []) tt (IndependentLawful d targets) independent_lawful none_independent r (last (independent_verdict d targets) tt r h)
 
--- some target reads the second color
-abbrev Second : Targets → Type 0
-Second targets = (t : ColorTargetState) × ContainsAt targets (Some t) × (reads_second_at (Some t) ≡ true)
-
-second_any : (targets : Targets) → reads_second_any targets ≡ true → Second targets
-second_any [] h = absurd (false≢true h)
-second_any (None ∷ rest) h = let w = second_any rest h in (w.0, there None rest w.0 w.1, w.2)
-second_any (Some t ∷ rest) h =
-    elim (or_cases (reads_second_at (Some t)) (reads_second_any rest) h) [
-      | inl e ↦ (t, has_get_or (Some t ∷ rest) 0 None (omega arith), e)
-      | inr e ↦ let w = second_any rest e in (w.0, there (Some t) rest w.0 w.1, w.2)
-    ]
-
 module _ (targets : Targets) where
   dual_lawful : first_of (dual_verdict targets ∷ []) ≡ None → DualLawful targets
   dual_lawful h t w e =
-      let reads = or_at reads_second_any reads_second_at refl (λ _ _. refl) targets w.0 None w.1 (rw (w.2 None) e) in
+      let reads : reads_second_any targets ≡ true = sym (any_second targets) ∙ list_any-from_Any reads_second_at targets (w.0, Some t, w.1, w.2, e) in
       grind (arith, verdict_cases, nat_tests)
 
+  no_second : DualLawful targets → 1 < length targets → reads_second_any targets ≡ false
+  no_second l more =
+      let none = from_each targets (λ o. reads_second_at o ≡ false) refl (λ t w. false_from_ne_true _ (λ e. let one = l t w e in omega arith)) in
+      sym (any_second targets) ∙ list_any_none reads_second_at targets none
+
   none_dual : DualLawful targets → first_of (dual_verdict targets ∷ []) ≡ None
-  none_dual l =
-      let alone : reads_second_any targets ≡ true → length targets ≤ 1 = λ t. let w = second_any targets t in l w.0 w.1 w.2 in
-      grind (arith, verdict_cases, nat_tests)
+  none_dual l = grind (arith, verdict_cases, nat_tests, no_second l)
 
   pub dual_judged : (r : Result (Unit {0}) CreateRenderPipelineError) → r ≡ answer (dual_verdict targets) tt → DualJudged targets r
   dual_judged r h = judged (dual_verdict targets ∷ []) tt (DualLawful targets) dual_lawful none_dual r (last (dual_verdict targets) tt r h)

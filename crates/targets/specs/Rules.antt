@@ -1,6 +1,5 @@
 -- The rules on color targets in words, with no order among them.
-use Rattle.std.specs.Prelude.{◌≡◌, ℕ, ◌<◌, ◌≤◌, true, List, [], ◌∷◌, length, is_some, Some, None, Option, Result, slice_index_or}
-use Rattle.std.specs.List.{ContainsAt}
+use Rattle.std.specs.Prelude.{◌≡◌, ℕ, ◌<◌, ◌≤◌, true, List, [], ◌∷◌, Contains, length, is_some, Some, None, Option, Result, slice_index_or}
 use Rattle.faults.specs.Faults.{Judged}
 use Rattle.formats.specs.Features.{includes, includes_flags, dual_source_blending, independent_blend}
 use Rattle.formats.specs.Samples.{supports}
@@ -50,7 +49,7 @@ TargetsJudged d answers count targets r =
 
 -- every two targets that are not empty write the same channels, blended in the same way
 abbrev pub AllAlike : List (Option ColorTargetState) → Type 0
-AllAlike targets = (s t : ColorTargetState) → ContainsAt targets (Some s) → ContainsAt targets (Some t) → Alike s t
+AllAlike targets = (s t : ColorTargetState) → Contains targets (Some s) → Contains targets (Some t) → Alike s t
 
 -- they do, or the device has the flag
 abbrev pub IndependentLawful : Device → List (Option ColorTargetState) → Type 0
@@ -61,7 +60,7 @@ IndependentJudged d targets r = Judged (independent_verdict d targets ∷ []) tt
 
 -- where the blending of a target reads the second color, there is no other target, not even an empty one
 abbrev pub DualLawful : List (Option ColorTargetState) → Type 0
-DualLawful targets = (t : ColorTargetState) → ContainsAt targets (Some t) → reads_second_at (Some t) ≡ true → length targets ≤ 1
+DualLawful targets = (t : ColorTargetState) → Contains targets (Some t) → reads_second_at (Some t) ≡ true → length targets ≤ 1
 
 abbrev pub DualJudged : List (Option ColorTargetState) → Result (Unit {0}) CreateRenderPipelineError → Type 0
 DualJudged targets r = Judged (dual_verdict targets ∷ []) tt (DualLawful targets) r
