@@ -4,6 +4,7 @@ ghost use Rattle.attachments.specs.Numbers.{number_of};
 ghost use Rattle.attachments.specs.Words.{words};
 
 use faults::Fault;
+use std::error::Error;
 use std::fmt;
 
 #[derive(Clone, Copy, PartialEq, Eq, Debug)]
@@ -48,3 +49,5 @@ impl fmt::Display for ColorAttachmentError {
         }
     }
 }
+
+impl Error for ColorAttachmentError {}

@@ -5,6 +5,7 @@ ghost use Rattle.device.specs.Words.{limit_words, failed_limit_words};
 
 use crate::limits::Limits;
 use faults::{Fault, first_fault};
+use std::error::Error;
 use std::fmt;
 
 #[derive(Clone, Copy, PartialEq, Eq, Debug)]
@@ -59,6 +60,8 @@ impl fmt::Display for FailedLimit {
         )
     }
 }
+
+impl Error for FailedLimit {}
 
 // The limits that a caller asks for.
 #[derive(Clone, Copy)]

@@ -12,6 +12,7 @@ use faults::Fault;
 use formats::features::{DownlevelFlags, Features};
 use formats::flags::{Flags, NamedFlags};
 use limits::Limits;
+use std::error::Error;
 use std::fmt;
 
 // A set of flags that a style needs and that the device does not have whole.
@@ -32,6 +33,8 @@ impl<S: NamedFlags> fmt::Display for Missing<S> {
         )
     }
 }
+
+impl<S: NamedFlags + fmt::Debug> Error for Missing<S> {}
 
 impl Fault for Missing<Features> {
     ghost number_of = { missing_features_number };

@@ -3,6 +3,7 @@ use crate::samples::write_sample_count;
 use descriptor::blend::{BlendFactor, ColorWrites};
 use formats::flags::Flags;
 use formats::texture::TextureFormat;
+use std::error::Error;
 use std::fmt;
 
 #[derive(Clone, Copy, PartialEq, Eq, Debug)]
@@ -56,3 +57,5 @@ impl fmt::Display for ColorStateError {
         }
     }
 }
+
+impl Error for ColorStateError {}

@@ -9,6 +9,7 @@ use attachments::error::ColorAttachmentError;
 use descriptor::primitive::{IndexFormat, PrimitiveTopology};
 use device::{MissingDownlevelFlags, MissingFeatures};
 use faults::Fault;
+use std::error::Error;
 use std::fmt;
 use vertex::error::VertexStateError;
 
@@ -124,3 +125,5 @@ impl fmt::Display for CreateRenderPipelineError {
         }
     }
 }
+
+impl Error for CreateRenderPipelineError {}

@@ -2,6 +2,7 @@
 use crate::samples::write_sample_count;
 use descriptor::primitive::PrimitiveTopology;
 use formats::texture::TextureFormat;
+use std::error::Error;
 use std::fmt;
 
 #[derive(Clone, Copy, PartialEq, Eq, Debug)]
@@ -56,3 +57,5 @@ impl fmt::Display for DepthStencilStateError {
         }
     }
 }
+
+impl Error for DepthStencilStateError {}

@@ -6,6 +6,7 @@ ghost use Rattle.vertex.specs.declared.error.VertexStateError.TheVariants.{Missi
 
 use device::MissingFeatures;
 use faults::Fault;
+use std::error::Error;
 use std::fmt;
 
 #[derive(Clone, Copy, PartialEq, Eq, Debug)]
@@ -135,3 +136,5 @@ impl fmt::Display for VertexStateError {
         }
     }
 }
+
+impl Error for VertexStateError {}
