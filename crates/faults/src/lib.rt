@@ -3,7 +3,7 @@
 #![tactic(auto)]
 
 ghost use Rattle.std.specs.Prelude.{◌≡◌, ℕ};
-ghost use Rattle.faults.specs.Faults.{first_of, FirstIn};
+ghost use Rattle.faults.specs.Faults.{answer, fault_if, first_of, FirstIn};
 
 // A fault has a number in the rule book.
 pub trait Fault {
@@ -11,6 +11,13 @@ pub trait Fault {
 
     fn number(&self) -> u32
         ensures { result ≡ number_of self.now };
+}
+
+// The fault where the test passes.
+pub fn refuse_if<E: Copy>(test: bool, fault: E) -> Result<(), E>
+    ensures { result ≡ answer (fault_if test fault) tt }
+{
+    if test { Err(fault) } else { Ok(()) }
 }
 
 // The first fault of a list of verdicts: the one at some place before which no place has one, or none where no place has one.
