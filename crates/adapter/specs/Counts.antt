@@ -7,10 +7,15 @@ use Rattle.formats.specs.declared.format_features.TextureFormatFeatureFlags.{Tex
 use Rattle.formats.specs.declared.texture.TextureFormat.{TextureFormat}
 use Rattle.device.specs.declared.Device.{Device}
 use Rattle.adapter.specs.Used.{Answers}
-use Rattle.adapter.specs.declared.samples.SampleCounts.{SampleCounts}
+use Rattle.adapter.specs.declared.samples.UnsupportedSampleCount.{UnsupportedSampleCount}
 
 -- more than one sample, and not a count among the flags. The refusal tells which counts are guaranteed, and which the adapter has
-abbrev pub counts_fault : Device → Answers → ℕ → TextureFormat → TextureFormatFeatureFlags → Option SampleCounts
+abbrev pub counts_fault : Device → Answers → ℕ → TextureFormat → TextureFormatFeatureFlags → Option UnsupportedSampleCount
 counts_fault d answers count f flags =
     fault_if (nat_lt 1 count && not (supports flags count))
-    (record { guaranteed = sum_of_counts (guaranteed d.features f).flags; supported = sum_of_counts (answers f).flags })
+    (record {
+      count = count;
+      format = f;
+      guaranteed = sum_of_counts (guaranteed d.features f).flags;
+      supported = sum_of_counts (answers f).flags;
+    })

@@ -7,13 +7,29 @@ use crate::Adapter;
 use device::Device;
 use formats::format_features::TextureFormatFeatures;
 use formats::texture::TextureFormat;
+use std::error::Error;
+use std::fmt;
 
-// The sums of the counts that WebGPU guarantees for a format, and of those that the adapter has.
+// The sums are those of the counts that WebGPU guarantees for the format, and of those that the adapter has.
 #[derive(Clone, Copy, PartialEq, Eq, Debug)]
-pub struct SampleCounts {
+pub struct UnsupportedSampleCount {
+    pub count: u32,
+    pub format: TextureFormat,
     pub guaranteed: u32,
     pub supported: u32,
 }
+
+impl fmt::Display for UnsupportedSampleCount {
+    fn fmt<W: fmt::Write>(&self, f: &mut fmt::Formatter<W>) -> fmt::Result {
+        write!(
+            f,
+            "{:?} cannot have {} samples; the counts that are guaranteed sum up to {}, those of the adapter to {}",
+            self.format, self.count, self.guaranteed, self.supported
+        )
+    }
+}
+
+impl Error for UnsupportedSampleCount {}
 
 // A count above one is one that the format can have, by `features`; else the refusal tells which it can have.
 pub fn require_sample_count<A: Adapter>(
@@ -22,11 +38,13 @@ pub fn require_sample_count<A: Adapter>(
     count: u32,
     format: TextureFormat,
     features: &TextureFormatFeatures,
-) -> Result<(), SampleCounts>
+) -> Result<(), UnsupportedSampleCount>
     ensures { result ≡ answer (counts_fault device.now (A.Adapter.answers adapter.now) count format features.now.flags) tt }
 {
     if count > 1 && !features.flags.sample_count_supported(count) {
-        return Err(SampleCounts {
+        return Err(UnsupportedSampleCount {
+            count,
+            format,
             guaranteed: format
                 .guaranteed_format_features(device.features)
                 .flags

@@ -64,7 +64,7 @@ no_stencil_verdict ds = fault_if (stencil_enabled ds.stencil && not (has_stencil
 abbrev pub count_fault : Device → Answers → ℕ → TextureFormat → TextureFormatFeatureFlags → Option DepthStencilStateError
 count_fault d answers count f flags =
     fault_if (nat_lt 1 count && not (supports flags count))
-    (InvalidSampleCount count f (sum_of_counts (guaranteed d.features f).flags) (sum_of_counts (answers f).flags))
+    (InvalidSampleCount (record { count = count; format = f; guaranteed = sum_of_counts (guaranteed d.features f).flags; supported = sum_of_counts (answers f).flags }))
 
 -- the flags are those of the answer used
 abbrev pub count_verdict : Device → Answers → ℕ → DepthStencilState → Option DepthStencilStateError

@@ -1,9 +1,8 @@
 // The judging of a depth-stencil state, in the reference's order.
 #![tactic(auto)]
 
-ghost use Rattle.std.specs.Prelude.{◌≡◌, not};
-ghost use Rattle.faults.specs.Faults.{answer, fault_if, first_of};
-ghost use Rattle.errors.specs.declared.depth_stencil.DepthStencilStateError.TheVariants.{FormatNotRenderable};
+ghost use Rattle.std.specs.Prelude.{◌≡◌};
+ghost use Rattle.faults.specs.Faults.{answer, first_of};
 ghost use Rattle.depth_stencil.specs.Order.{aspect_verdict, depth_verdicts, no_stencil_verdict, count_fault, clamp_verdict, topology_verdict, state_verdicts};
 ghost use Rattle.depth_stencil.specs.Rules.{DepthStencilJudged};
 
@@ -14,6 +13,7 @@ use descriptor::primitive::PrimitiveTopology;
 use device::Device;
 use errors::create::CreateRenderPipelineError;
 use errors::depth_stencil::DepthStencilStateError;
+use faults::refuse_if;
 use formats::features::DownlevelFlags;
 use formats::format_features::TextureFormatFeatures;
 use formats::texture::TextureFormat;
@@ -23,10 +23,10 @@ fn check_aspects(ds: &DepthStencilState) -> Result<(), DepthStencilStateError>
     ensures { result ≡ answer (aspect_verdict ds.now) tt }
 {
     let aspects = ds.format.aspects();
-    if !aspects.depth && !aspects.stencil {
-        return Err(DepthStencilStateError::FormatNotDepthOrStencil(ds.format));
-    }
-    Ok(())
+    refuse_if(
+        !aspects.depth && !aspects.stencil,
+        DepthStencilStateError::FormatNotDepthOrStencil(ds.format),
+    )
 }
 
 // Depth is there if it is enabled; and if it is there, what is done with it is told.
@@ -54,23 +54,10 @@ fn check_depth(ds: &DepthStencilState) -> Result<(), DepthStencilStateError>
 fn check_stencil(ds: &DepthStencilState) -> Result<(), DepthStencilStateError>
     ensures { result ≡ answer (no_stencil_verdict ds.now) tt }
 {
-    if ds.stencil.is_enabled() && !ds.format.aspects().stencil {
-        return Err(DepthStencilStateError::FormatNotStencil(ds.format));
-    }
-    Ok(())
-}
-
-// One field, and this crate's own fault: a function for this and the targets' test of that field would be no plainer.
-fn check_renderable(
-    features: &TextureFormatFeatures,
-    format: TextureFormat,
-) -> Result<(), DepthStencilStateError>
-    ensures { result ≡ answer (fault_if (not features.now.renderable) (FormatNotRenderable format)) tt }
-{
-    if !features.renderable {
-        return Err(DepthStencilStateError::FormatNotRenderable(format));
-    }
-    Ok(())
+    refuse_if(
+        ds.stencil.is_enabled() && !ds.format.aspects().stencil,
+        DepthStencilStateError::FormatNotStencil(ds.format),
+    )
 }
 
 // The sample count is one that the format can have, by `features`.
@@ -83,14 +70,9 @@ fn check_sample_count<A: Adapter>(
 ) -> Result<(), DepthStencilStateError>
     ensures { result ≡ answer (count_fault device.now (A.Adapter.answers adapter.now) count format features.now.flags) tt }
 {
-    require_sample_count(device, adapter, count, format, features).map_err(|sums| {
-        DepthStencilStateError::InvalidSampleCount {
-            count,
-            format,
-            guaranteed: sums.guaranteed,
-            supported: sums.supported,
-        }
-    })
+    require_sample_count(device, adapter, count, format, features).map_err(
+        DepthStencilStateError::InvalidSampleCount,
+    )
 }
 
 fn check_clamp(device: &Device, ds: &DepthStencilState) -> Result<(), CreateRenderPipelineError>
@@ -108,13 +90,13 @@ fn check_topology(
 ) -> Result<(), CreateRenderPipelineError>
     ensures { result ≡ answer (topology_verdict topology ds.now) tt }
 {
-    if ds.bias.is_enabled() && !topology.is_triangles() {
-        return Err(DepthStencilStateError::DepthBiasWithIncompatibleTopology(topology).into());
-    }
-    Ok(())
+    refuse_if(
+        ds.bias.is_enabled() && !topology.is_triangles(),
+        DepthStencilStateError::DepthBiasWithIncompatibleTopology(topology).into(),
+    )
 }
 
-// The adapter and the count go to one check alone, so a struct of what is passed here would be no plainer.
+// What is passed here goes no further than two checks, so a struct of it would be no plainer.
 fn check_state<A: Adapter>(
     device: &Device,
     adapter: &A,
@@ -126,7 +108,10 @@ fn check_state<A: Adapter>(
 {
     check_aspects(ds)?;
     let features = describe_format_features(device, adapter, ds.format)?;
-    check_renderable(&features, ds.format)?;
+    refuse_if(
+        !features.renderable,
+        DepthStencilStateError::FormatNotRenderable(ds.format),
+    )?;
     check_depth(ds)?;
     check_stencil(ds)?;
     check_sample_count(device, adapter, count, ds.format, &features)?;

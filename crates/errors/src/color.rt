@@ -1,5 +1,5 @@
 // The faults of one color target.
-use crate::samples::write_sample_count;
+use adapter::samples::UnsupportedSampleCount;
 use descriptor::blend::{BlendFactor, ColorWrites};
 use formats::flags::Flags;
 use formats::texture::TextureFormat;
@@ -11,22 +11,10 @@ pub enum ColorStateError {
     FormatNotRenderable(TextureFormat),
     FormatNotBlendable(TextureFormat),
     FormatNotColor(TextureFormat),
-    // The sums are those of the counts that WebGPU guarantees for the format, and of those that the adapter has.
-    InvalidSampleCount {
-        count: u32,
-        format: TextureFormat,
-        guaranteed: u32,
-        supported: u32,
-    },
+    InvalidSampleCount(UnsupportedSampleCount),
     InvalidWriteMask(ColorWrites),
-    BlendFactorOnUnsupportedTarget {
-        factor: BlendFactor,
-        target: u64,
-    },
-    InvalidMinMaxBlendFactor {
-        factor: BlendFactor,
-        target: u64,
-    },
+    BlendFactorOnUnsupportedTarget { factor: BlendFactor, target: u64 },
+    InvalidMinMaxBlendFactor { factor: BlendFactor, target: u64 },
 }
 
 impl fmt::Display for ColorStateError {
@@ -35,12 +23,7 @@ impl fmt::Display for ColorStateError {
             Self::FormatNotRenderable(format) => write!(f, "{format:?} cannot be drawn on"),
             Self::FormatNotBlendable(format) => write!(f, "{format:?} cannot be blended"),
             Self::FormatNotColor(format) => write!(f, "{format:?} has no color"),
-            Self::InvalidSampleCount {
-                count,
-                format,
-                guaranteed,
-                supported,
-            } => write_sample_count(f, *count, *format, *guaranteed, *supported),
+            Self::InvalidSampleCount(e) => write!(f, "{e}"),
             Self::InvalidWriteMask(mask) => write!(
                 f,
                 "write mask {} has a bit that is no channel's",

@@ -1,5 +1,5 @@
 // The faults of a depth-stencil state.
-use crate::samples::write_sample_count;
+use adapter::samples::UnsupportedSampleCount;
 use descriptor::primitive::PrimitiveTopology;
 use formats::texture::TextureFormat;
 use std::error::Error;
@@ -11,13 +11,7 @@ pub enum DepthStencilStateError {
     FormatNotDepthOrStencil(TextureFormat),
     FormatNotDepth(TextureFormat),
     FormatNotStencil(TextureFormat),
-    // The sums are those of the counts that WebGPU guarantees for the format, and of those that the adapter has.
-    InvalidSampleCount {
-        count: u32,
-        format: TextureFormat,
-        guaranteed: u32,
-        supported: u32,
-    },
+    InvalidSampleCount(UnsupportedSampleCount),
     DepthBiasWithIncompatibleTopology(PrimitiveTopology),
     MissingDepthCompare(TextureFormat),
     MissingDepthWriteEnabled(TextureFormat),
@@ -36,12 +30,7 @@ impl fmt::Display for DepthStencilStateError {
             Self::FormatNotStencil(format) => {
                 write!(f, "{format:?} has no stencil, which is compared or written")
             }
-            Self::InvalidSampleCount {
-                count,
-                format,
-                guaranteed,
-                supported,
-            } => write_sample_count(f, *count, *format, *guaranteed, *supported),
+            Self::InvalidSampleCount(e) => write!(f, "{e}"),
             Self::DepthBiasWithIncompatibleTopology(topology) => {
                 write!(f, "a depth bias is for triangles, and not for {topology:?}")
             }

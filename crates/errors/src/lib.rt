@@ -4,4 +4,3 @@
 pub mod color;
 pub mod create;
 pub mod depth_stencil;
-mod samples;

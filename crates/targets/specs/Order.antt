@@ -70,7 +70,7 @@ abbrev pub count_fault : Device → Answers → ℕ → ℕ → TextureFormat �
 count_fault d answers count index f flags =
     fault_if (nat_lt 1 count && not (supports flags count))
     (ColorState index
-    (InvalidSampleCount count f (sum_of_counts (guaranteed d.features f).flags) (sum_of_counts (answers f).flags)))
+    (InvalidSampleCount (record { count = count; format = f; guaranteed = sum_of_counts (guaranteed d.features f).flags; supported = sum_of_counts (answers f).flags })))
 
 -- what its format can do is the answer used
 abbrev pub state_verdicts : Device → Answers → ℕ → ℕ → ColorTargetState → List (Option CreateRenderPipelineError)

@@ -6,12 +6,14 @@ ghost use Rattle.targets.specs.Rules.{IndependentJudged, DualJudged};
 use descriptor::blend::ColorTargetState;
 use device::Device;
 use errors::create::CreateRenderPipelineError;
+use faults::refuse_if;
 use formats::features::DownlevelFlags;
 
 // Whether a target, if it is not empty, writes like the first that is not.
 fn writes_like_first(first: Option<ColorTargetState>, target: Option<ColorTargetState>) -> bool
     ensures { result ≡ like_first first target }
 {
+    // A match of both at once: a closure in a closure would be no plainer.
     match (first, target) {
         (Some(f), Some(t)) => f.writes_like(&t),
         _ => true,
@@ -64,8 +66,8 @@ pub fn check_dual_source_blending(
     ensures { DualJudged targets.now result }
 {
     let count = targets.len() as u64;
-    if count > 1 && read_second_source(targets) {
-        return Err(CreateRenderPipelineError::DualSourceBlendingWithMultipleColorTargets { count });
-    }
-    Ok(())
+    refuse_if(
+        count > 1 && read_second_source(targets),
+        CreateRenderPipelineError::DualSourceBlendingWithMultipleColorTargets { count },
+    )
 }

@@ -1,5 +1,6 @@
 // The blending of one target: color before alpha, and of each the source factor before the destination's.
 ghost use Rattle.std.specs.Prelude.{◌≡◌};
+ghost use Rattle.errors.specs.declared.create.CreateRenderPipelineError.TheVariants.{ColorState};
 ghost use Rattle.faults.specs.Faults.{answer, first_of};
 ghost use Rattle.targets.specs.Order.{second_verdicts, min_max_verdict, factor_verdicts, component_verdicts, blend_verdicts};
 
@@ -8,16 +9,23 @@ use descriptor::blend::{BlendComponent, BlendFactor, BlendOperation, BlendState}
 use device::Device;
 use errors::color::ColorStateError;
 use errors::create::CreateRenderPipelineError;
+use faults::refuse_if;
 use formats::features::Features;
 
 // A target by its index, on the device that it is for.
 #[derive(Clone, Copy)]
-pub struct Target<'a> {
+pub(crate) struct Target<'a> {
     pub device: &'a Device,
     pub index: u64,
 }
 
-impl<'a> Target<'a> {
+impl Target<'_> {
+    pub(crate) fn fault(&self, e: ColorStateError) -> CreateRenderPipelineError
+        ensures { result ≡ ColorState self.now.index e }
+    {
+        fault_at(self.index, e)
+    }
+
     // A factor that reads the second color is for a device with that feature, and for target 0.
     fn check_second_source(&self, factor: BlendFactor) -> Result<(), CreateRenderPipelineError>
         ensures { result ≡ answer (first_of (second_verdicts self.now.device.now self.now.index factor)) tt }
@@ -27,12 +35,13 @@ impl<'a> Target<'a> {
         }
         self.device
             .require_features(Features::DUAL_SOURCE_BLENDING)?;
-        if self.index != 0 {
-            let target = self.index;
-            let e = ColorStateError::BlendFactorOnUnsupportedTarget { factor, target };
-            return Err(fault_at(target, e));
-        }
-        Ok(())
+        refuse_if(
+            self.index != 0,
+            self.fault(ColorStateError::BlendFactorOnUnsupportedTarget {
+                factor,
+                target: self.index,
+            }),
+        )
     }
 
     // Min and Max take no factor but One.
@@ -43,12 +52,13 @@ impl<'a> Target<'a> {
     ) -> Result<(), CreateRenderPipelineError>
         ensures { result ≡ answer (min_max_verdict self.now.index operation factor) tt }
     {
-        if operation.is_min_max() && !factor.is_one() {
-            let target = self.index;
-            let e = ColorStateError::InvalidMinMaxBlendFactor { factor, target };
-            return Err(fault_at(target, e));
-        }
-        Ok(())
+        refuse_if(
+            operation.is_min_max() && !factor.is_one(),
+            self.fault(ColorStateError::InvalidMinMaxBlendFactor {
+                factor,
+                target: self.index,
+            }),
+        )
     }
 
     #[tactic(auto, using(faults::proofs::Verdicts::verdict_cases))]
@@ -71,7 +81,10 @@ impl<'a> Target<'a> {
         self.check_factor(component.operation, component.dst_factor)
     }
 
-    pub fn check_blend(&self, blend: Option<BlendState>) -> Result<(), CreateRenderPipelineError>
+    pub(crate) fn check_blend(
+        &self,
+        blend: Option<BlendState>,
+    ) -> Result<(), CreateRenderPipelineError>
         ensures { result ≡ answer (first_of (blend_verdicts self.now.device.now self.now.index blend)) tt }
     {
         let Some(b) = blend else {

@@ -5,7 +5,7 @@ ghost use Rattle.errors.specs.declared.create.CreateRenderPipelineError.TheVaria
 use errors::color::ColorStateError;
 use errors::create::CreateRenderPipelineError;
 
-pub fn fault_at(index: u64, e: ColorStateError) -> CreateRenderPipelineError
+pub(crate) fn fault_at(index: u64, e: ColorStateError) -> CreateRenderPipelineError
     ensures { result ≡ ColorState index e }
 {
     CreateRenderPipelineError::ColorState(index, e)

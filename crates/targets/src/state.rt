@@ -12,38 +12,42 @@ use descriptor::blend::ColorTargetState;
 use device::Device;
 use errors::color::ColorStateError;
 use errors::create::CreateRenderPipelineError;
+use faults::refuse_if;
 use formats::format_features::TextureFormatFeatures;
 use formats::texture::TextureFormat;
 
-fn check_write_mask(index: u64, state: &ColorTargetState) -> Result<(), CreateRenderPipelineError>
-    ensures { result ≡ answer (mask_verdict index state.now) tt }
-{
-    if state.write_mask.contains_unknown_bits() {
-        let e = ColorStateError::InvalidWriteMask(state.write_mask);
-        return Err(fault_at(index, e));
+impl Target<'_> {
+    fn check_write_mask(&self, state: &ColorTargetState) -> Result<(), CreateRenderPipelineError>
+        ensures { result ≡ answer (mask_verdict self.now.index state.now) tt }
+    {
+        refuse_if(
+            state.write_mask.contains_unknown_bits(),
+            self.fault(ColorStateError::InvalidWriteMask(state.write_mask)),
+        )
     }
-    Ok(())
-}
 
-// What is asked of the format: that it can be drawn on, be blended if it is, and has color.
-fn check_uses(
-    index: u64,
-    state: &ColorTargetState,
-    features: &TextureFormatFeatures,
-) -> Result<(), CreateRenderPipelineError>
-    ensures { result ≡ answer (first_of (uses_verdicts index state.now features.now)) tt }
-{
-    let format = state.format;
-    if !features.renderable {
-        return Err(fault_at(index, ColorStateError::FormatNotRenderable(format)));
+    // What is asked of the format: that it can be drawn on, be blended if it is, and has color.
+    fn check_uses(
+        &self,
+        state: &ColorTargetState,
+        features: &TextureFormatFeatures,
+    ) -> Result<(), CreateRenderPipelineError>
+        ensures { result ≡ answer (first_of (uses_verdicts self.now.index state.now features.now)) tt }
+    {
+        let format = state.format;
+        refuse_if(
+            !features.renderable,
+            self.fault(ColorStateError::FormatNotRenderable(format)),
+        )?;
+        refuse_if(
+            state.blend.is_some() && !features.flags.blendable,
+            self.fault(ColorStateError::FormatNotBlendable(format)),
+        )?;
+        refuse_if(
+            !format.aspects().color,
+            self.fault(ColorStateError::FormatNotColor(format)),
+        )
     }
-    if state.blend.is_some() && !features.flags.blendable {
-        return Err(fault_at(index, ColorStateError::FormatNotBlendable(format)));
-    }
-    if !format.aspects().color {
-        return Err(fault_at(index, ColorStateError::FormatNotColor(format)));
-    }
-    Ok(())
 }
 
 // What all targets of a style are judged by.
@@ -64,16 +68,9 @@ impl<'a, A: Adapter> Judge<'a, A> {
     ) -> Result<(), CreateRenderPipelineError>
         ensures { result ≡ answer (count_fault self.now.device.now (A.Adapter.answers self.now.adapter.now) self.now.count index format features.now.flags) tt }
     {
-        let count = self.count;
-        require_sample_count(self.device, self.adapter, count, format, features).map_err(|sums| {
-            let e = ColorStateError::InvalidSampleCount {
-                count,
-                format,
-                guaranteed: sums.guaranteed,
-                supported: sums.supported,
-            };
-            fault_at(index, e)
-        })
+        require_sample_count(self.device, self.adapter, self.count, format, features).map_err(
+            |e| fault_at(index, ColorStateError::InvalidSampleCount(e)),
+        )
     }
 
     fn check_state(
@@ -83,14 +80,14 @@ impl<'a, A: Adapter> Judge<'a, A> {
     ) -> Result<(), CreateRenderPipelineError>
         ensures { result ≡ answer (first_of (state_verdicts self.now.device.now (A.Adapter.answers self.now.adapter.now) self.now.count index state.now)) tt }
     {
-        check_write_mask(index, state)?;
-        let features = describe_format_features(self.device, self.adapter, state.format)?;
-        check_uses(index, state, &features)?;
-        self.check_sample_count(index, state.format, &features)?;
         let target = Target {
             device: self.device,
             index,
         };
+        target.check_write_mask(state)?;
+        let features = describe_format_features(self.device, self.adapter, state.format)?;
+        target.check_uses(state, &features)?;
+        self.check_sample_count(index, state.format, &features)?;
         target.check_blend(state.blend)
     }
 

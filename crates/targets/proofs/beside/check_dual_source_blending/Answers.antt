@@ -2,8 +2,5 @@ use Rattle.std.proofs.Common.{rules}
 use Rattle.targets.proofs.Pairs.{dual_judged}
 use Rattle.targets.proofs.beside.check_dual_source_blending.Goals as goal
 
-pub returns-then-read_second_source : goal.returns-then-read_second_source
-returns-then-read_second_source c = dual_judged c.args.targets.now _ (search rules)
-
 pub returns : goal.returns
 returns c = dual_judged c.args.targets.now _ (search rules)

@@ -1,5 +1,4 @@
 use Rattle.std.proofs.Common.{rules}
-use Rattle.adapter.specs.declared.samples.SampleCounts.{SampleCounts}
 use Rattle.errors.specs.declared.color.ColorStateError.TheVariants.{InvalidSampleCount}
 use Rattle.errors.specs.declared.create.CreateRenderPipelineError.TheVariants.{ColorState}
 use Rattle.faults.proofs.Verdicts.{mapped}
@@ -7,5 +6,4 @@ use Rattle.targets.proofs.state.Judge.check_sample_count.Goals as goal
 
 pub returns : goal.returns
 returns g c =
-    mapped (λ (sums : SampleCounts). ColorState c.args.index (InvalidSampleCount c.args.self.now.count c.args.format sums.guaranteed sums.supported))
-    _ _ _ _ c.require_sample_count.ensures c.map_err.ensures.cases (λ d e m. search rules)
+    mapped (λ e. ColorState c.args.index (InvalidSampleCount e)) _ _ _ _ c.require_sample_count.ensures c.map_err.ensures.cases (λ d e m. search rules)
