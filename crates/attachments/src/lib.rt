@@ -18,6 +18,6 @@ pub struct AttachmentData {
 pub struct RenderPassContext {
     pub attachments: AttachmentData,
     pub sample_count: u32,
-    // A number and no Option: the rule book has 0 for none.
+    // A number and no Option: a mask without a bit is none.
     pub multiview_mask: u32,
 }

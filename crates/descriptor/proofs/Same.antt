@@ -21,17 +21,17 @@ operation : (a b : BlendOperation) → Decides (same_operation a b) (a ≡ b)
 operation a b = search rules
 
 -- the derived equality is the sameness by places
-derived_factor : (a b : BlendFactor) → Factor.eq-value.it a b ≡ same_factor a b
+pub derived_factor : (a b : BlendFactor) → Factor.eq-value.it a b ≡ same_factor a b
 derived_factor a b = search rules
 
-derived_operation : (a b : BlendOperation) → Operation.eq-value.it a b ≡ same_operation a b
+pub derived_operation : (a b : BlendOperation) → Operation.eq-value.it a b ≡ same_operation a b
 derived_operation a b = search rules
 
-derived_component : (a b : BlendComponent) → Component.eq-value.it a b ≡ same_component a b
+pub derived_component : (a b : BlendComponent) → Component.eq-value.it a b ≡ same_component a b
 derived_component a b =
     rw (derived_factor a.src_factor b.src_factor, derived_factor a.dst_factor b.dst_factor, derived_operation a.operation b.operation) refl
 
-derived_state : (a b : BlendState) → State.eq-value.it a b ≡ same_state a b
+pub derived_state : (a b : BlendState) → State.eq-value.it a b ≡ same_state a b
 derived_state a b = rw (derived_component a.color b.color, derived_component a.alpha b.alpha) refl
 
 pub derived_blend : (a b : Option BlendState) → option_eq State.eq-value.it a b ≡ same_blend a b

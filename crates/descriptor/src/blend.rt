@@ -121,7 +121,7 @@ impl ColorWrites {
     pub fn contains_unknown_bits(self) -> bool
         ensures { result ≡ unknown_bits self }
     {
-        self.bits > 15
+        self.bits > Self::ALL.bits
     }
 }
 

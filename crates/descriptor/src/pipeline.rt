@@ -21,6 +21,6 @@ pub struct RenderPipelineDescriptor<'a> {
     pub multisample: MultisampleState,
     // A style without a fragment stage has none. A place of the list may be empty.
     pub targets: &'a [Option<ColorTargetState>],
-    // The views that are drawn at once, a bit each. A number and no Option: the rule book has 0 for a style without a mask.
+    // The views that are drawn at once, a bit each. A number and no Option: a mask without a bit draws no view, and is none.
     pub multiview_mask: u32,
 }

@@ -89,6 +89,7 @@ impl Limits {
         ensures value { Limited required.now result }
         ensures exactly { Taken required.now result }
     {
+        // Verdicts and no `?`: what is proved of the first fault of a list stands on this call.
         let verdicts = [
             check_ceiling(
                 LimitName::MaxColorAttachments,

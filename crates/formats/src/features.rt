@@ -172,6 +172,7 @@ mod tests {
         assert_eq!(rt; DownlevelFlags::INDEPENDENT_BLEND.bits, 1);
         assert_eq!(rt; DownlevelFlags::DEPTH_BIAS_CLAMP.bits, 2);
         assert_eq!(rt; DownlevelFlags::WEBGPU_TEXTURE_FORMAT_SUPPORT.bits, 4);
+        assert_eq!(rt; DownlevelFlags::ALL.bits, 7);
     }
 
     #[test]

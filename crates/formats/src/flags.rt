@@ -5,7 +5,7 @@ ghost use Rattle.formats.specs.Flags.{holds};
 use std::fmt;
 
 // A set is a word of bits, and nothing more.
-// A trait, and no struct with a type parameter: that would stand, with no value of its own, in every definition that speaks of a set.
+// A trait, and no struct with a type parameter: its parameter would stand, with no value of its own, in every definition of a set.
 pub trait Flags: Copy {
     ghost word: { Self → ℕ };
 

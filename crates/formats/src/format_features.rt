@@ -34,7 +34,7 @@ impl TextureFormatFeatureFlags {
         }
     }
 
-    // The sum of those of the counts that are supported.
+    // The sum of those of the counts that are supported. The list is lent, so that the bound of the sum is asked of the caller.
     fn sum_of_supported(self, counts: &[u32]) -> u32
         requires { sum (filter (supports self) counts.now) < 2 ^ 32 }
         ensures { result ≡ sum (filter (supports self) counts.now) }

@@ -51,7 +51,7 @@ pub enum VertexFormat {
     Unorm8x4Bgra,
 }
 
-// In the order of the formats.
+// In the order of the formats. A table, and no size beside each case, so that its rule and range are proved over all of it at once.
 const SIZES: [u64; 45] = [
     1, 2, 4, 1, 2, 4, 1, 2, 4, 1, 2, 4, 2, 4, 8, 2, 4, 8, 2, 4, 8, 2, 4, 8, 2, 4, 8, 4, 8, 12, 16,
     4, 8, 12, 16, 4, 8, 12, 16, 8, 16, 24, 32, 4, 4,

@@ -71,7 +71,7 @@ impl Numbers {
         }
         Ok(Some(VertexBufferLayout {
             array_stride: self.next_u64()?,
-            // Any number but 0 is Instance, which is no conversion that a type could own.
+            // By hand: any number but 0 is Instance, and both the type and the trait of a conversion are of other crates.
             step_mode: match self.next_u64()? {
                 0 => VertexStepMode::Vertex,
                 _ => VertexStepMode::Instance,
