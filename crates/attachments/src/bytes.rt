@@ -5,6 +5,7 @@ ghost use Rattle.attachments.specs.Bytes.{count_verdict, cost_verdict, cost_verd
 
 use crate::error::ColorAttachmentError;
 use device::Device;
+use faults::refuse_if;
 use formats::texture::TextureFormat;
 
 // Whether a device takes so many color attachments.
@@ -12,10 +13,10 @@ pub fn check_color_attachment_count(device: &Device, given: u64) -> Result<(), C
     ensures { result ≡ answer (count_verdict device.now given) tt }
 {
     let limit = u64::from(device.limits.max_color_attachments);
-    if given > limit {
-        return Err(ColorAttachmentError::TooMany { given, limit });
-    }
-    Ok(())
+    refuse_if(
+        given > limit,
+        ColorAttachmentError::TooMany { given, limit },
+    )
 }
 
 // The bytes once one attachment more is there: rounded up to its alignment, and then its cost.
@@ -57,13 +58,12 @@ pub fn validate_color_attachment_bytes_per_sample(
     ensures judged { BytesJudged device.now colors.now result }
     ensures rounding { Rounding }
 {
-    let total = total_cost(colors)?;
-    let limit = device.limits.max_color_attachment_bytes_per_sample;
-    if total > limit {
-        return Err(ColorAttachmentError::TooManyBytesPerSample {
-            total: u64::from(total),
-            limit: u64::from(limit),
-        });
-    }
-    Ok(total)
+    let bytes = total_cost(colors)?;
+    let total = u64::from(bytes);
+    let limit = u64::from(device.limits.max_color_attachment_bytes_per_sample);
+    refuse_if(
+        total > limit,
+        ColorAttachmentError::TooManyBytesPerSample { total, limit },
+    )?;
+    Ok(bytes)
 }

@@ -12,8 +12,10 @@ use crate::reach::{Reach, check_stride};
 use crate::step::VertexStep;
 use descriptor::vertex::{VertexAttribute, VertexBufferLayout, VertexState};
 use device::Device;
+use faults::refuse_if;
 
 // A slot's part stays in a list of `available` attributes.
+// An index and what stands there, as `enumerate` gives them: a struct of the two would be no plainer.
 fn check_range(
     available: u64,
     index: u64,
@@ -21,17 +23,18 @@ fn check_range(
 ) -> Result<(), VertexStateError>
     ensures { result ≡ answer (range_verdict available index slot) tt }
 {
-    if let Some(s) = slot {
-        let end = s.attributes_end();
-        if end > available {
-            return Err(VertexStateError::AttributeRange {
-                index,
-                given: end,
-                limit: available,
-            });
-        }
-    }
-    Ok(())
+    let Some(s) = slot else {
+        return Ok(());
+    };
+    let end = s.attributes_end();
+    refuse_if(
+        end > available,
+        VertexStateError::AttributeRange {
+            index,
+            given: end,
+            limit: available,
+        },
+    )
 }
 
 // Each slot's part stays in the attribute list. At create, rules on the targets stand between this one and the others.
@@ -54,10 +57,10 @@ fn check_buffer_count(
 {
     let given = slots.len() as u64;
     let limit = u64::from(device.limits.max_vertex_buffers);
-    if given > limit {
-        return Err(VertexStateError::TooManyVertexBuffers { given, limit });
-    }
-    Ok(())
+    refuse_if(
+        given > limit,
+        VertexStateError::TooManyVertexBuffers { given, limit },
+    )
 }
 
 fn attribute_count(slot: &Option<VertexBufferLayout>) -> u64
@@ -147,10 +150,10 @@ impl Bounded<'_> {
     {
         let given = self.total_attributes();
         let limit = u64::from(self.device.limits.max_vertex_attributes);
-        if given > limit {
-            return Err(VertexStateError::TooManyVertexAttributes { given, limit });
-        }
-        Ok(())
+        refuse_if(
+            given > limit,
+            VertexStateError::TooManyVertexAttributes { given, limit },
+        )
     }
 }
 

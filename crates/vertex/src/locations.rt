@@ -7,6 +7,7 @@ ghost use Rattle.vertex.specs.Order.{far_verdict, format_verdict, claim_verdicts
 use crate::error::VertexStateError;
 use descriptor::vertex::VertexAttribute;
 use device::Device;
+use faults::refuse_if;
 use formats::features::Features;
 use formats::vertex::VertexFormat;
 use keyed::{Entry, insert};
@@ -41,10 +42,10 @@ impl Locations {
         let Ok(earlier) = insert(&mut self.places, a.shader_location, a.format) else {
             unreachable()
         };
-        if earlier.is_some() {
-            return Err(VertexStateError::ShaderLocationClash(a.shader_location));
-        }
-        Ok(())
+        refuse_if(
+            earlier.is_some(),
+            VertexStateError::ShaderLocationClash(a.shader_location),
+        )
     }
 
     // The second round at the attributes of one slot.
@@ -68,13 +69,13 @@ impl Locations {
 fn check_far_offset(a: &VertexAttribute) -> Result<(), VertexStateError>
     ensures { result ≡ answer (far_verdict a.now) tt }
 {
-    if a.offset >= 0x1000_0000 {
-        return Err(VertexStateError::InvalidVertexAttributeOffset {
+    refuse_if(
+        a.offset >= 0x1000_0000,
+        VertexStateError::InvalidVertexAttributeOffset {
             location: a.shader_location,
             offset: a.offset,
-        });
-    }
-    Ok(())
+        },
+    )
 }
 
 fn check_format(device: &Device, a: &VertexAttribute) -> Result<(), VertexStateError>

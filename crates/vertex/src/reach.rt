@@ -7,9 +7,10 @@ ghost use Rattle.vertex.specs.Order.{attribute_verdicts, attributes_verdicts, la
 use crate::error::VertexStateError;
 use descriptor::vertex::{VertexAttribute, VertexBufferLayout};
 use device::Device;
+use faults::refuse_if;
 
 // How far the attributes of a slot may reach: its stride, or the stride limit, so that 32 bits hold it.
-pub fn check_stride(
+pub(crate) fn check_stride(
     device: &Device,
     index: u64,
     s: &VertexBufferLayout,
@@ -17,31 +18,34 @@ pub fn check_stride(
     ensures { result ≡ answer (first_of (stride_verdicts device.now index s.now)) (reach device.now s.now) }
 {
     let limit = device.limits.max_vertex_buffer_array_stride;
-    if s.array_stride > u64::from(limit) {
-        return Err(VertexStateError::VertexStrideTooLarge {
+    refuse_if(
+        s.array_stride > u64::from(limit),
+        VertexStateError::VertexStrideTooLarge {
             index,
             given: s.array_stride,
             limit: u64::from(limit),
-        });
-    }
-    if s.array_stride % 4 != 0 {
-        return Err(VertexStateError::UnalignedVertexStride {
+        },
+    )?;
+    refuse_if(
+        s.array_stride % 4 != 0,
+        VertexStateError::UnalignedVertexStride {
             index,
             stride: s.array_stride,
-        });
-    }
+        },
+    )?;
     if s.array_stride == 0 {
         Ok(limit)
     } else {
+        // `as`, proved to lose nothing: `try_from` would have an error that cannot come.
         Ok(s.array_stride as u32)
     }
 }
 
 // A device, and how far the attributes of a slot may reach.
 #[derive(Clone, Copy)]
-pub struct Reach<'a> {
-    pub device: &'a Device,
-    pub most: u32,
+pub(crate) struct Reach<'a> {
+    pub(crate) device: &'a Device,
+    pub(crate) most: u32,
 }
 
 impl Reach<'_> {
@@ -52,31 +56,34 @@ impl Reach<'_> {
         let location = a.shader_location;
         let end = a.end();
         let most = u64::from(self.most);
-        if end > most {
-            return Err(VertexStateError::VertexAttributeStrideTooLarge {
+        refuse_if(
+            end > most,
+            VertexStateError::VertexAttributeStrideTooLarge {
                 location,
                 given: end,
                 limit: most,
-            });
-        }
-        if a.offset % a.format.size().min(4) != 0 {
-            return Err(VertexStateError::InvalidVertexAttributeOffset {
+            },
+        )?;
+        refuse_if(
+            a.offset % a.format.size().min(4) != 0,
+            VertexStateError::InvalidVertexAttributeOffset {
                 location,
                 offset: a.offset,
-            });
-        }
+            },
+        )?;
         let limit = self.device.limits.max_vertex_attributes;
-        if location >= limit {
-            return Err(VertexStateError::VertexAttributeLocationTooLarge {
+        refuse_if(
+            location >= limit,
+            VertexStateError::VertexAttributeLocationTooLarge {
                 given: u64::from(location),
                 limit: u64::from(limit),
-            });
-        }
+            },
+        )?;
         Ok(end)
     }
 
     // The greatest end of the attributes of one slot, or 0.
-    pub fn check_attributes(&self, part: &[VertexAttribute]) -> Result<u64, VertexStateError>
+    pub(crate) fn check_attributes(&self, part: &[VertexAttribute]) -> Result<u64, VertexStateError>
         ensures { result ≡ answer (first_of (attributes_verdicts self.now.device.now self.now.most part.now)) (last_stride_of part.now) }
     {
         let mut last_stride = 0;
