@@ -100,7 +100,7 @@ pub struct BlendState {
     pub alpha: BlendComponent,
 }
 
-// The channels that a target writes, a bit each.
+// The channels that a target writes, a bit each. A struct of its own, as `Features` is.
 #[derive(Clone, Copy, PartialEq, Eq, Debug)]
 pub struct ColorWrites {
     bits: u32,

@@ -25,6 +25,7 @@ pub fn first_fault<E: Copy>(verdicts: &[Option<E>]) -> Option<E>
     ensures value { result ≡ first_of verdicts.now }
     ensures first { FirstIn verdicts.now result }
 {
+    // A loop: no clause of the library says of a list what `find_map` finds in it.
     for verdict in verdicts {
         if let Some(fault) = verdict {
             return Some(*fault);

@@ -20,6 +20,7 @@ fn write_names<S: Flags, W: fmt::Write>(
     Ok(())
 }
 
+// A struct of its own, and none with a type parameter: `Flags` says why.
 #[derive(Clone, Copy, PartialEq, Eq, Debug)]
 pub struct Features {
     bits: u32,
@@ -104,6 +105,7 @@ impl fmt::Display for Features {
     }
 }
 
+// A struct of its own, as `Features` is.
 #[derive(Clone, Copy, PartialEq, Eq, Debug)]
 pub struct DownlevelFlags {
     bits: u32,
@@ -172,7 +174,15 @@ mod tests {
         assert_eq!(rt; DownlevelFlags::INDEPENDENT_BLEND.bits, 1);
         assert_eq!(rt; DownlevelFlags::DEPTH_BIAS_CLAMP.bits, 2);
         assert_eq!(rt; DownlevelFlags::WEBGPU_TEXTURE_FORMAT_SUPPORT.bits, 4);
-        assert_eq!(rt; DownlevelFlags::ALL.bits, 7);
+    }
+
+    #[test]
+    fn all_flags(rt: HostRuntime) {
+        let all = NAMED_FLAGS.iter().fold(
+            DownlevelFlags::empty(),
+            |flags, (flag, _)| flags.union(*flag),
+        );
+        assert_eq!(rt; all, DownlevelFlags::ALL);
     }
 
     #[test]

@@ -75,7 +75,7 @@ pub fn insert<K: Key, V: Copy>(
     Ok(earlier.map(|entry| entry.value))
 }
 
-// A location number is a key.
+// A location number is a key. Its test is written out, since a must-fail edit turns it.
 impl Key for u32 {
     ghost same = { λ a b. (a == b) };
 

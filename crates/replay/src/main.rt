@@ -119,6 +119,7 @@ fn show_step(rt: &HostRuntime, step: Option<VertexStep>) -> io::Result<()> {
 }
 
 fn show_fault(rt: &HostRuntime, fault: &VertexStateError) -> io::Result<()> {
+    // Once for all arms.
     let number = fault.number();
     match fault {
         VertexStateError::AttributeRange {
