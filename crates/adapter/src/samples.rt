@@ -41,6 +41,7 @@ pub fn require_sample_count<A: Adapter>(
 ) -> Result<(), UnsupportedSampleCount>
     ensures { result ≡ answer (counts_fault device.now (A.Adapter.answers adapter.now) count format features.now.flags) tt }
 {
+    // No `refuse_if`: the adapter is asked only where there is a refusal.
     if count > 1 && !features.flags.sample_count_supported(count) {
         return Err(UnsupportedSampleCount {
             count,

@@ -96,7 +96,7 @@ fn check_topology(
     )
 }
 
-// What is passed here goes no further than two checks, so a struct of it would be no plainer.
+// A struct of what is passed would serve two functions of this file alone, and be no plainer.
 fn check_state<A: Adapter>(
     device: &Device,
     adapter: &A,

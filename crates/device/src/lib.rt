@@ -8,7 +8,7 @@ ghost use Rattle.std.specs.Prelude.{◌≡◌};
 ghost use Rattle.faults.specs.Faults.{answer};
 ghost use Rattle.device.specs.Lacking.{lacks, features_fault, flags_fault, missing_features_number, missing_flags_number};
 
-use faults::Fault;
+use faults::{Fault, refuse_if};
 use formats::features::{DownlevelFlags, Features};
 use formats::flags::{Flags, NamedFlags};
 use limits::Limits;
@@ -56,11 +56,7 @@ impl Fault for Missing<DownlevelFlags> {
 fn require<S: Flags>(held: S, needed: S) -> Result<(), Missing<S>>
     ensures { result ≡ answer (lacks S.Flags.word held needed) tt }
 {
-    if held.contains(needed) {
-        Ok(())
-    } else {
-        Err(Missing(needed))
-    }
+    refuse_if(!held.contains(needed), Missing(needed))
 }
 
 #[derive(Clone, Copy)]

@@ -7,7 +7,7 @@ ghost use Rattle.keyed.specs.Lookup.{hit, is_empty, lookup, Inserts, NeverRefuse
 ghost use Rattle.std.proofs.Common.{rules};
 
 // What the map asks of a key: a sameness with three laws, and a test for it.
-// Not std's `Eq`: what is the same key is a definition of specs/, and must-fail edits turn the test, which a derive does not show.
+// Not std's `Eq`: must-fail edits turn the test that each key states here, and a derive has none that they could turn.
 pub trait Key: Copy {
     ghost same: { Self → Self → Bool };
 

@@ -1,6 +1,5 @@
 // The blending of one target: color before alpha, and of each the source factor before the destination's.
 ghost use Rattle.std.specs.Prelude.{◌≡◌};
-ghost use Rattle.errors.specs.declared.create.CreateRenderPipelineError.TheVariants.{ColorState};
 ghost use Rattle.faults.specs.Faults.{answer, first_of};
 ghost use Rattle.targets.specs.Order.{second_verdicts, min_max_verdict, factor_verdicts, component_verdicts, blend_verdicts};
 
@@ -20,12 +19,6 @@ pub(crate) struct Target<'a> {
 }
 
 impl Target<'_> {
-    pub(crate) fn fault(&self, e: ColorStateError) -> CreateRenderPipelineError
-        ensures { result ≡ ColorState self.now.index e }
-    {
-        fault_at(self.index, e)
-    }
-
     // A factor that reads the second color is for a device with that feature, and for target 0.
     fn check_second_source(&self, factor: BlendFactor) -> Result<(), CreateRenderPipelineError>
         ensures { result ≡ answer (first_of (second_verdicts self.now.device.now self.now.index factor)) tt }
@@ -37,10 +30,13 @@ impl Target<'_> {
             .require_features(Features::DUAL_SOURCE_BLENDING)?;
         refuse_if(
             self.index != 0,
-            self.fault(ColorStateError::BlendFactorOnUnsupportedTarget {
-                factor,
-                target: self.index,
-            }),
+            fault_at(
+                self.index,
+                ColorStateError::BlendFactorOnUnsupportedTarget {
+                    factor,
+                    target: self.index,
+                },
+            ),
         )
     }
 
@@ -54,10 +50,13 @@ impl Target<'_> {
     {
         refuse_if(
             operation.is_min_max() && !factor.is_one(),
-            self.fault(ColorStateError::InvalidMinMaxBlendFactor {
-                factor,
-                target: self.index,
-            }),
+            fault_at(
+                self.index,
+                ColorStateError::InvalidMinMaxBlendFactor {
+                    factor,
+                    target: self.index,
+                },
+            ),
         )
     }
 

@@ -22,7 +22,10 @@ impl Target<'_> {
     {
         refuse_if(
             state.write_mask.contains_unknown_bits(),
-            self.fault(ColorStateError::InvalidWriteMask(state.write_mask)),
+            fault_at(
+                self.index,
+                ColorStateError::InvalidWriteMask(state.write_mask),
+            ),
         )
     }
 
@@ -37,15 +40,15 @@ impl Target<'_> {
         let format = state.format;
         refuse_if(
             !features.renderable,
-            self.fault(ColorStateError::FormatNotRenderable(format)),
+            fault_at(self.index, ColorStateError::FormatNotRenderable(format)),
         )?;
         refuse_if(
             state.blend.is_some() && !features.flags.blendable,
-            self.fault(ColorStateError::FormatNotBlendable(format)),
+            fault_at(self.index, ColorStateError::FormatNotBlendable(format)),
         )?;
         refuse_if(
             !format.aspects().color,
-            self.fault(ColorStateError::FormatNotColor(format)),
+            fault_at(self.index, ColorStateError::FormatNotColor(format)),
         )
     }
 }
@@ -91,6 +94,7 @@ impl<'a, A: Adapter> Judge<'a, A> {
         target.check_blend(state.blend)
     }
 
+    // An index and what stands there, as `enumerate` gives them: a struct of the two would be no plainer.
     fn check_target(
         &self,
         index: u64,
