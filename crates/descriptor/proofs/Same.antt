@@ -9,8 +9,6 @@ use Rattle.descriptor.specs.declared.blend.BlendComponent.{BlendComponent}
 use Rattle.descriptor.specs.declared.blend.BlendState.{BlendState}
 use Rattle.descriptor.specs.declared.blend.ColorTargetState.{ColorTargetState}
 use Rattle.descriptor.specs.declared.blend.ColorWrites.{ColorWrites}
-use Rattle.descriptor.specs.contracts.blend.BlendFactorPartialEq.TheImpl as Factor
-use Rattle.descriptor.specs.contracts.blend.BlendOperationPartialEq.TheImpl as Operation
 use Rattle.descriptor.specs.contracts.blend.BlendComponentPartialEq.TheImpl as Component
 use Rattle.descriptor.specs.contracts.blend.BlendStatePartialEq.TheImpl as State
 
@@ -20,19 +18,12 @@ factor a b = search rules
 operation : (a b : BlendOperation) → Decides (same_operation a b) (a ≡ b)
 operation a b = search rules
 
--- the derived equality is the sameness by places
-pub derived_factor : (a b : BlendFactor) → Factor.eq-value.it a b ≡ same_factor a b
-derived_factor a b = search rules
-
-pub derived_operation : (a b : BlendOperation) → Operation.eq-value.it a b ≡ same_operation a b
-derived_operation a b = search rules
-
+-- the derived equality of records is the sameness by places
 pub derived_component : (a b : BlendComponent) → Component.eq-value.it a b ≡ same_component a b
-derived_component a b =
-    rw (derived_factor a.src_factor b.src_factor, derived_factor a.dst_factor b.dst_factor, derived_operation a.operation b.operation) refl
+derived_component a b = refl
 
 pub derived_state : (a b : BlendState) → State.eq-value.it a b ≡ same_state a b
-derived_state a b = rw (derived_component a.color b.color, derived_component a.alpha b.alpha) refl
+derived_state a b = refl
 
 pub derived_blend : (a b : Option BlendState) → option_eq State.eq-value.it a b ≡ same_blend a b
 derived_blend None None = refl

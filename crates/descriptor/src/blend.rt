@@ -1,11 +1,13 @@
 // A color target of a style: its format, which channels are written, and how a color is blended with the one that is there.
 ghost use Rattle.std.specs.Prelude.{◌≡◌, ◌↔◌, IsTrue, refl};
-ghost use Rattle.descriptor.specs.Blend.{second_source, is_min_max, is_one, is_constant, uses_constant, reads_second, unknown_bits, writes_like, Alike};
+ghost use Rattle.descriptor.specs.Blend.{factor_place, operation_place, same_factor, same_operation, second_source, is_min_max, is_one, is_constant, uses_constant, reads_second, unknown_bits, writes_like, Alike};
+ghost use Rattle.std.specs.Cmp.{partial_equiv_from_equiv};
+ghost use Rattle.descriptor.specs.BlendLaws.{same_factor_equiv, same_operation_equiv, same_component_equiv, same_state_equiv};
 
 use formats::flags::Flags;
 use formats::texture::TextureFormat;
 
-#[derive(Clone, Copy, PartialEq, Eq, Debug)]
+#[derive(Clone, Copy, Debug)]
 pub enum BlendFactor {
     Zero,
     One,
@@ -27,6 +29,12 @@ pub enum BlendFactor {
 }
 
 impl BlendFactor {
+    fn place(self) -> usize
+        ensures { result ≡ factor_place self }
+    {
+        self as usize
+    }
+
     // Whether it reads the second color that a shader gives.
     pub fn ref_second_blend_source(self) -> bool
         ensures { result ≡ second_source self }
@@ -54,7 +62,22 @@ impl BlendFactor {
     }
 }
 
-#[derive(Clone, Copy, PartialEq, Eq, Debug)]
+// Written out, as that of operations: by it callers know the two by their places in the order of the rule book.
+impl PartialEq for BlendFactor {
+    ghost eq = { λ a b. same_factor a b };
+
+    ghost laws = { partial_equiv_from_equiv same_factor_equiv };
+
+    fn eq(&self, other: &BlendFactor) -> bool {
+        self.place() == other.place()
+    }
+}
+
+impl Eq for BlendFactor {
+    ghost laws = { same_factor_equiv };
+}
+
+#[derive(Clone, Copy, Debug)]
 pub enum BlendOperation {
     Add,
     Subtract,
@@ -64,11 +87,31 @@ pub enum BlendOperation {
 }
 
 impl BlendOperation {
+    fn place(self) -> usize
+        ensures { result ≡ operation_place self }
+    {
+        self as usize
+    }
+
     pub fn is_min_max(self) -> bool
         ensures { result ≡ is_min_max self }
     {
         matches!(self, BlendOperation::Min | BlendOperation::Max)
     }
+}
+
+impl PartialEq for BlendOperation {
+    ghost eq = { λ a b. same_operation a b };
+
+    ghost laws = { partial_equiv_from_equiv same_operation_equiv };
+
+    fn eq(&self, other: &BlendOperation) -> bool {
+        self.place() == other.place()
+    }
+}
+
+impl Eq for BlendOperation {
+    ghost laws = { same_operation_equiv };
 }
 
 #[derive(Clone, Copy, PartialEq, Eq, Debug)]
@@ -94,10 +137,30 @@ impl BlendComponent {
     }
 }
 
+#[derived]
+impl PartialEq for BlendComponent {
+    ghost laws = { partial_equiv_from_equiv same_component_equiv };
+}
+
+#[derived]
+impl Eq for BlendComponent {
+    ghost laws = { same_component_equiv };
+}
+
 #[derive(Clone, Copy, PartialEq, Eq, Debug)]
 pub struct BlendState {
     pub color: BlendComponent,
     pub alpha: BlendComponent,
+}
+
+#[derived]
+impl PartialEq for BlendState {
+    ghost laws = { partial_equiv_from_equiv same_state_equiv };
+}
+
+#[derived]
+impl Eq for BlendState {
+    ghost laws = { same_state_equiv };
 }
 
 // The channels that a target writes, a bit each. A struct of its own, as `Features` is.

@@ -3,14 +3,9 @@ use Rattle.std.proofs.Common.{◌≡◌, false, true, Decides, inl, inr, rules}
 use Rattle.std.proofs.lemmas.Bool.{cases_Bool}
 use Rattle.formats.specs.Texture.{same_format}
 use Rattle.formats.specs.declared.texture.TextureFormat.{TextureFormat}
-use Rattle.formats.specs.contracts.texture.TextureFormatPartialEq.TheImpl as Format
 
 pub decides : (a b : TextureFormat) → Decides (same_format a b) (a ≡ b)
 decides a b = search rules
-
--- the derived equality is the sameness by places
-pub derived_format : (a b : TextureFormat) → Format.eq-value.it a b ≡ same_format a b
-derived_format a b = search rules
 
 pub same_means : (a b : TextureFormat) → same_format a b ≡ true → a ≡ b
 same_means a b = (decides a b).0

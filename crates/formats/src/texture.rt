@@ -1,12 +1,15 @@
 // The texture formats: what each holds, what a color target of it costs, and what can be done with it, from one table.
-ghost use Rattle.std.specs.Prelude.{◌≡◌};
-ghost use Rattle.formats.specs.Texture.{aspects_of, cost_of, required_of, guaranteed, ColorApart, Multiple, Small, OnlyFour};
+ghost use Rattle.std.specs.Prelude.{◌≡◌, ◌↔◌, IsTrue};
+ghost use Rattle.formats.specs.Texture.{aspects_of, cost_of, required_of, guaranteed, place_of, same_format, ColorApart, Multiple, Small, OnlyFour};
+ghost use Rattle.std.specs.Cmp.Rules.{comparing};
+ghost use Rattle.std.proofs.Common.{rules};
+ghost use Rattle.std.specs.Cmp as Keys;
 
 use crate::features::Features;
 use crate::format_features::{TextureFormatFeatureFlags, TextureFormatFeatures};
 use crate::rows::row_of;
 
-#[derive(Clone, Copy, Debug, PartialEq, Eq)]
+#[derive(Clone, Copy, Debug)]
 pub enum TextureFormat {
     R8Unorm,
     R8Uint,
@@ -109,6 +112,12 @@ impl TextureFormat {
         TextureFormat::Depth32FloatStencil8,
     ];
 
+    fn place(self) -> usize
+        ensures { result ≡ place_of self }
+    {
+        self as usize
+    }
+
     pub fn aspects(self) -> FormatAspects
         ensures rule { result ≡ aspects_of self }
         ensures apart { ColorApart result }
@@ -151,6 +160,24 @@ impl TextureFormat {
     }
 }
 
+// Written out: a derived equality has no clause, and no body that a must-fail edit can turn.
+impl PartialEq for TextureFormat {
+    ghost eq = { λ a b. same_format a b };
+
+    ghost laws = { Keys.partial_equiv_from_equiv (Prim.search (comparing, rules)) };
+
+    fn eq(&self, other: &TextureFormat) -> bool
+        ensures value { result ≡ same_format self.now other.now }
+        ensures exactly { IsTrue result ↔ (self.now ≡ other.now) }
+    {
+        self.place() == other.place()
+    }
+}
+
+impl Eq for TextureFormat {
+    ghost laws = { Prim.search (comparing, rules) };
+}
+
 #[cfg(test)]
 mod tests {
     use super::*;
@@ -159,7 +186,7 @@ mod tests {
     #[test]
     fn all(rt: HostRuntime) {
         for (place, format) in TextureFormat::ALL.iter().enumerate() {
-            assert_eq!(rt; *format as usize, place);
+            assert_eq!(rt; format.place(), place);
         }
     }
 }
