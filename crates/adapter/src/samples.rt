@@ -32,6 +32,8 @@ impl fmt::Display for UnsupportedSampleCount {
 impl Error for UnsupportedSampleCount {}
 
 // A count above one is one that the format can have, by `features`; else the refusal tells which it can have.
+// In place: as a call it would take longer than the rest of an accepted state's judging.
+#[inline(always)]
 pub fn require_sample_count<A: Adapter>(
     device: &Device,
     adapter: &A,

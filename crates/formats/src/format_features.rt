@@ -1,5 +1,5 @@
 // What can be done with textures of a format: what the table grants, and what an adapter answers.
-ghost use Rattle.std.specs.Prelude.{◌≡◌, ◌^◌, ◌<◌, filter, sum};
+ghost use Rattle.std.specs.Prelude.{◌≡◌, ◌≤◌, if◌then◌else◌};
 ghost use Rattle.formats.specs.Samples.{supports, sum_of_counts};
 
 // One sample is always supported, and has no flag.
@@ -34,22 +34,27 @@ impl TextureFormatFeatureFlags {
         }
     }
 
-    // The sum of those of the counts that are supported. The list is lent, so that the bound of the sum is asked of the caller.
-    fn sum_of_supported(self, counts: &[u32]) -> u32
-        requires { sum (filter (supports self) counts.now) < 2 ^ 32 }
-        ensures { result ≡ sum (filter (supports self) counts.now) }
+    // The count if it is supported, else 0.
+    fn count_or_zero(self, count: u32) -> u32
+        ensures value { result ≡ (if supports self count then count else 0) }
+        ensures most { result ≤ count }
     {
-        counts
-            .iter()
-            .filter(|count| self.sample_count_supported(**count))
-            .sum()
+        if self.sample_count_supported(count) {
+            count
+        } else {
+            0
+        }
     }
 
-    // The sum of the counts that are supported, 1 among them.
+    // The sum of the counts that are supported, 1 among them. No chain over a list of them, which takes three times as long.
     pub fn supported_sample_counts(self) -> u32
         ensures { result ≡ sum_of_counts self }
     {
-        self.sum_of_supported(&[1, 2, 4, 8, 16])
+        self.count_or_zero(1)
+            + self.count_or_zero(2)
+            + self.count_or_zero(4)
+            + self.count_or_zero(8)
+            + self.count_or_zero(16)
     }
 }
 
