@@ -18,32 +18,36 @@ use formats::flags::Flags;
 use formats::vertex::VertexFormat;
 use std::alloc::Global;
 use std::io::BufRead;
-use std::{io, vec};
+use std::num::ParseIntError;
+use std::{io, slice};
 use vertex::error::VertexStateError;
 use vertex::layout::check_vertex_state;
 use vertex::step::VertexStep;
 
-// The numbers of a line that are still to be read.
-#[derive(Drop)]
-struct Numbers {
-    rest: vec::IntoIter<u64>,
+// The numbers of a line. The whole line is read before any number of it is used.
+// They are collected with the error of std: an anyhow::Error has room for its words, which each number would fill.
+fn read_numbers(heap: Global, text: &str) -> anyhow::Result<Vec<u64>> {
+    Ok(
+        text.split_whitespace()
+            .map(|word| word.parse::<u64>())
+            .collect::<Result<Vec<u64>, ParseIntError>>(heap)??,
+    )
 }
 
-impl Numbers {
-    // The whole line is read before any number of it is used.
-    fn read(heap: Global, text: &str) -> anyhow::Result<Numbers> {
-        let numbers: Vec<u64> = text
-            .split_whitespace()
-            .map(|word| -> anyhow::Result<u64> { Ok(word.parse()?) })
-            .try_collect(heap)?;
-        Ok(Numbers {
-            rest: numbers.into_iter(),
-        })
-    }
+// The numbers of a line that are still to be read.
+#[derive(Drop)]
+struct Numbers<'a> {
+    rest: slice::Iter<'a, u64>,
+}
 
+impl<'a> Numbers<'a> {
     // The next number, of 64 bits or of 32.
     fn next_u64(&mut self) -> anyhow::Result<u64> {
-        self.rest.next().context("a number is missing")
+        // No `context`, by which each number would pass through the room of an error.
+        let Some(number) = self.rest.next() else {
+            return Err(anyhow!("a number is missing"));
+        };
+        Ok(*number)
     }
 
     fn next_u32(&mut self) -> anyhow::Result<u32> {
@@ -51,7 +55,7 @@ impl Numbers {
     }
 
     // A count, and then as many items.
-    fn list<T: Drop, F: FnMut(&mut Numbers) -> anyhow::Result<T>>(
+    fn list<T: Drop, F: FnMut(&mut Numbers<'a>) -> anyhow::Result<T>>(
         &mut self,
         heap: Global,
         mut item: F,
@@ -167,7 +171,8 @@ fn show_answer(rt: &HostRuntime, device: &Device, vertex: &VertexState) -> io::R
 }
 
 fn replay(rt: &HostRuntime, text: &str) -> anyhow::Result<()> {
-    let mut numbers = Numbers::read(rt.alloc(), text)?;
+    let read = read_numbers(rt.alloc(), text)?;
+    let mut numbers = Numbers { rest: read.iter() };
     let device = numbers.device()?;
     let buffers = numbers.list(rt.alloc(), Numbers::slot)?;
     let attributes = numbers.list(rt.alloc(), Numbers::attribute)?;
