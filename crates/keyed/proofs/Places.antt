@@ -53,7 +53,7 @@ module _ {K V : Type 0} (same : K → K → Bool) where
   lookup-cons k (Some e) ps = refl
 
   -- under a key that no place has stands nothing
-  lookup_none : (ps : List (Option (Entry K V))) (k : K) → position (hit same k) ps ≡ None → lookup same ps k ≡ None
+  pub lookup_none : (ps : List (Option (Entry K V))) (k : K) → position (hit same k) ps ≡ None → lookup same ps k ≡ None
   unfolding lookup
   lookup_none ps k h = found_nowhere (λ qs. lookup same qs k) (hit same k) value_of None refl (lookup-cons k) ps None (λ j l. fails_before_first (hit same k) ps j None (let past = nowhere (hit same k) ps h in omega arith))
 

@@ -101,10 +101,10 @@ module _ (d : Device) (answers : Answers) (count : ℕ) where
       (none_targets (index + 1) rest (later index (Some t) rest l))
 
   module _ (targets : List (Option ColorTargetState)) where
-    all_lawful : first_of (targets_verdicts d answers count 0 targets) ≡ None → TargetsLawful d answers count targets
+    pub all_lawful : first_of (targets_verdicts d answers count 0 targets) ≡ None → TargetsLawful d answers count targets
     all_lawful h i t e = let z : 0 + i ≡ i = omega arith in rw z at (targets_lawful 0 targets h i t e)
 
-    passes_lawful : TargetsLawful d answers count targets → first_of (targets_verdicts d answers count 0 targets) ≡ None
+    pub passes_lawful : TargetsLawful d answers count targets → first_of (targets_verdicts d answers count 0 targets) ≡ None
     passes_lawful l = none_targets 0 targets (λ i t e. let z : 0 + i ≡ i = omega arith in rw z (l i t e))
 
     -- all that the judging answers, from its value

@@ -53,7 +53,7 @@ module _ (ps : Places) (k : ℕ) (v : VertexFormat) (qs : Places) where
       omega (arith, w.takes, r.room, ap (count_below 32) (marks (Some u) w ∙ also_known k (claimed ps) (ap is_some (sym w.answers))))
 
   -- after a store the location is claimed besides those before, and there is still room
-  claims : (earlier : Option VertexFormat) → k < 32 → Roomy ps → Stored eqb ps k v earlier qs → Claims (also k (claimed ps)) qs
+  pub claims : (earlier : Option VertexFormat) → k < 32 → Roomy ps → Stored eqb ps k v earlier qs → Claims (also k (claimed ps)) qs
   claims earlier h r w =
       record { roomy = record { size = w.places ∙ r.size; room = room earlier h r w }; marks = marks earlier w }
 

@@ -1,5 +1,5 @@
 -- What is known of slots and attributes whose verdicts are none: locations below 32, and parts that stay in the list.
-use Rattle.std.proofs.Common.{◌≡◌, ℕ, ◌+◌, ◌<◌, List, [], ◌∷◌, length, get_or, Some, None, Ok, All, Contains, Option, refl}
+use Rattle.std.proofs.Common.{◌≡◌, ℕ, ◌+◌, ◌<◌, List, [], ◌∷◌, length, get_or, Some, None, Ok, All, Contains, Option, refl, arith}
 use Rattle.std.proofs.lemmas.List.Elements.{All-from_recursion, All-nil, All-cons, All-head, All-tail, All-weaker, All-contains_itself}
 use Rattle.faults.specs.Faults.{first_of, answer}
 use Rattle.faults.proofs.Order.{none_from_ok, each_none}
@@ -12,12 +12,13 @@ use Rattle.vertex.specs.Rules.{InRange}
 use Rattle.faults.proofs.Verdicts.{in_order}
 
 -- the locations of attributes that pass the first round are below the limit
-low : (d : Device) (most : ℕ) (a : VertexAttribute) → first_of (attribute_verdicts d most a) ≡ None → a.shader_location < 32
-low d most a h = grind (in_order, h, d.limits.attributes)
+low : (d : Device) (most : ℕ) (a : VertexAttribute) → first_of (attribute_verdicts d most a) ≡ None → a.shader_location < d.limits.max_vertex_attributes
+low d most a h = grind (in_order, h)
 
 pub all_low : (d : Device) (most : ℕ) (part : List VertexAttribute) (y x : ℕ) → Ok y ≡ answer (first_of (attributes_verdicts d most part)) x → All (λ a. a.shader_location < 32) part
 all_low d most part y x h =
-    All-weaker _ _ (low d most) part (All-from_recursion _ part (each_none (attribute_verdicts d most) part (none_from_ok _ x y h)))
+    All-weaker (λ a. first_of (attribute_verdicts d most a) ≡ None) (λ a. a.shader_location < 32) (λ a k. let l = low d most a k in let c = d.limits.attributes in omega arith) part
+    (All-from_recursion _ part (each_none (attribute_verdicts d most) part (none_from_ok _ x y h)))
 
 -- where no slot's part leaves the list, each stays in it
 module _ (attributes : List VertexAttribute) where
