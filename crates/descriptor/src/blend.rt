@@ -62,7 +62,7 @@ impl BlendFactor {
     }
 }
 
-// Written out, as that of operations: by it callers know the two by their places in the order of the rule book.
+// Written out, as that of operations: by it callers know factors and operations by their places.
 impl PartialEq for BlendFactor {
     ghost eq = { λ a b. same_factor a b };
 

@@ -46,7 +46,7 @@ impl TextureFormatFeatureFlags {
         }
     }
 
-    // The sum of the counts that are supported, 1 among them. No chain over a list of them, which takes three times as long.
+    // The sum of the counts that are supported, 1 among them. No chain over a list of them, which takes nearly four times as long.
     pub fn supported_sample_counts(self) -> u32
         ensures { result ≡ sum_of_counts self }
     {

@@ -25,7 +25,7 @@ use vertex::layout::check_vertex_state;
 use vertex::step::VertexStep;
 
 // The numbers of a line. The whole line is read before any number of it is used.
-// They are collected with the error of std: an anyhow::Error has room for its words, which each number would fill.
+// They are collected with the error of std, so that no number passes through the room that an anyhow::Error has for its words.
 fn read_numbers(heap: Global, text: &str) -> anyhow::Result<Vec<u64>> {
     Ok(
         text.split_whitespace()
